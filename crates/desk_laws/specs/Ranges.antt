@@ -1,0 +1,28 @@
+-- Places and sizes brought into range.
+use Rattle.std.specs.Prelude.{ℕ, min, max, ℤ, pos, negsuc}
+use Rattle.std.specs.Int.{w32, cast_signed, int_min, int_max}
+use Rattle.gui_num.specs.declared.Rect.{Rect}
+
+-- a place from -32768 to 32767
+abbrev pub place_in_range : ℤ → ℤ
+place_in_range z = int_max (negsuc 32767) (int_min (pos 32767) z)
+
+abbrev pub width_in_range : ℕ → ℕ
+width_in_range n = max 1 (min n 16384)
+
+abbrev pub height_in_range : ℕ → ℕ
+height_in_range n = max 1 (min n 6144)
+
+-- the rectangle of four numbers as they stand in a body
+abbrev pub rect_in_range : ℕ → ℕ → ℕ → ℕ → Rect
+rect_in_range x y width height = record {
+  x = place_in_range (cast_signed w32 x);
+  y = place_in_range (cast_signed w32 y);
+  w = width_in_range width;
+  h = height_in_range height;
+}
+
+-- the size that a signed number asks for: one below 1 replaced_in 1
+abbrev pub size_of : ℤ → ℕ
+size_of (pos n) = n
+size_of (negsuc n) = 0

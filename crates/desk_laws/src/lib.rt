@@ -1,0 +1,19 @@
+//! The plain types of the desktop, and the definitions of what it does (`specs/`).
+//!
+//! A desktop shows the windows of several guests. Its state is one value, and each item of its
+//! input (a piece of a guest's bytes, a change of a guest's frames, what the user does) is one step
+//! of it: `specs/Steps.antt` has that step, and the files that it names have its parts.
+#![tactic(auto)]
+
+mod cause;
+mod input;
+mod item;
+mod row_id;
+mod rules;
+mod setup;
+
+pub use cause::Cause;
+pub use input::GIn;
+pub use item::Item;
+pub use row_id::RowId;
+pub use setup::{GuestSetup, Guests, Name, Setup};
