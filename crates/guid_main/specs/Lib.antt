@@ -1,0 +1,6 @@
+pub mod Config
+pub mod RecordGrammar
+pub mod OutputGrammar
+pub mod Readings
+pub mod FeedReadings
+pub mod DeskPosts

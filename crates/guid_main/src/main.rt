@@ -1,0 +1,7 @@
+//! The daemon's program: replays a record of a desktop.
+#![tactic(auto)]
+
+mod config;
+mod replay_feed;
+
+fn main(_rt: HostRuntime) {}
