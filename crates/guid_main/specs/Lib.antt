@@ -4,3 +4,10 @@ pub mod OutputGrammar
 pub mod Readings
 pub mod FeedReadings
 pub mod DeskPosts
+pub mod FeedRuns
+pub mod Answers
+pub mod Writes
+pub mod PictureView
+pub mod DeskStands
+pub mod DeskValue
+pub mod ItemWrites

@@ -28,13 +28,21 @@ ppm_head width height = codes "P6\n" ++ decimal width ++ codes " " ++ decimal he
 abbrev pub ppm : ℕ → ℕ → List ℕ → List ℕ
 ppm width height colours = ppm_head width height ++ flat_map rgb colours
 
+-- a guest's number in one byte
+abbrev pub guest_byte : ℕ → ℕ
+guest_byte guest = guest % 256
+
 -- a Reply record: the guest, the length, and the message
 unfoldable pub reply_record : ℕ → List ℕ → List ℕ
-reply_record guest bytes = 1 ∷ guest ∷ word (length bytes) ++ bytes
+reply_record guest bytes = 1 ∷ guest_byte guest ∷ word (length bytes) ++ bytes
 
 -- an Ended record: the guest, the cause's number, and its two values
 unfoldable pub ended_record : ℕ → ℕ → ℕ → ℕ → List ℕ
-ended_record guest number a b = 2 ∷ guest ∷ number ∷ word a ++ word b
+ended_record guest number a b = 2 ∷ guest_byte guest ∷ number ∷ word a ++ word b
+
+-- how each Picture record of this size begins: the length, and the head of the PPM file
+unfoldable pub picture_head : ℕ → ℕ → List ℕ
+picture_head width height = 3 ∷ word (length (ppm_head width height) + 3 * (width * height)) ++ ppm_head width height
 
 -- a Picture record: the length, and the PPM file
 unfoldable pub picture_record : ℕ → ℕ → List ℕ → List ℕ
