@@ -1,5 +1,5 @@
 -- What the forms in memory hold, as contracts see them.
-use Rattle.std.specs.Prelude.{◌≡◌, ◌⊎◌, ℕ, Bool, true, false, IsTrue, if◌then◌else◌, List, [], ◌++◌, Contains, Option, Some, None}
+use Rattle.std.specs.Prelude.{◌≡◌, ◌⊎◌, ℕ, Bool, true, false, IsTrue, if◌then◌else◌, List, [], ◌∷◌, ◌++◌, Contains, Option, Some, None}
 use Rattle.desk_laws.specs.declared.cause.Cause.{Cause}
 use Rattle.desk_laws.specs.Scene.{Post, Reply, Ended, Picture, Summary}
 use Rattle.io_ports.specs.Counts.{one_more, faults_after}
@@ -21,6 +21,10 @@ abbrev pub KeepsMore : {X : Type 0} → Kept X → List X → Kept X → Type 0
 KeepsMore old more new =
     (IsTrue old.is_whole × (new ≡ record { items = old.items ++ more; is_whole = true }))
     ⊎ (new ≡ record { items = old.items; is_whole = false })
+
+-- the post was put behind those that were kept, or the list isn't whole and nothing more was kept
+abbrev pub KeepsPost : Kept Post → Post → Kept Post → Type 0
+KeepsPost old post new = KeepsMore old (post ∷ []) new
 
 -- the numbers, from 1, of the calls that are to fail, and how many calls there were and how many failed
 pub record Failing : Type 0 where

@@ -26,3 +26,6 @@ pub use sink::{Sink, put_all};
 pub use source::{Failed, Source, fill};
 pub use std_streams::{StdSink, StdSource};
 pub use sure::{SureSink, SureSource};
+
+#[cfg(test)]
+mod tests;

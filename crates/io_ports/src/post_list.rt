@@ -2,7 +2,7 @@
 ghost use Rattle.std.specs.Prelude.{◌≡◌, [], ◌∷◌, map, None, Some, MatchOption, slice_get};
 ghost use Rattle.desk_laws.specs.Scene.{Post, Reply, Ended};
 ghost use Rattle.io_ports.specs.KeptPosts.{post_of};
-ghost use Rattle.io_ports.specs.Memory.{KeepsMore, none_kept, reply_in, ended_in};
+ghost use Rattle.io_ports.specs.Memory.{KeepsPost, none_kept, reply_in, ended_in};
 
 use crate::Outlet;
 use desk_laws::Cause;
@@ -77,14 +77,14 @@ impl PostList {
 
     // Puts the post behind the others, unless it finds no memory.
     fn keep(&mut self, post: KeptPost)
-        ensures { KeepsMore self.old (post_of post ∷ []) self.new }
+        ensures { KeepsPost self.old (post_of post) self.new }
     {
         self.is_whole = self.is_whole && self.posts.push(post).is_ok();
     }
 }
 
 impl Outlet for PostList {
-    ghost takes = { λ a post b. KeepsMore a (post ∷ []) b };
+    ghost takes = { KeepsPost };
 
     fn reply(&mut self, guest: u32, bytes: &[u8]) {
         if !self.is_whole {
