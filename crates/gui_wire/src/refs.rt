@@ -1,6 +1,6 @@
 // The references of a dump, lent out of its body.
-ghost use Rattle.std.specs.Prelude.{◌≡◌, ◌<◌, ◌%◌, ◌^◌, length, slice_index};
-ghost use Rattle.gui_wire.specs.Words.{all_words};
+ghost use Rattle.std.specs.Prelude.{◌≡◌, ◌<◌, ◌*◌, ◌%◌, ◌^◌, length, slice_index};
+ghost use Rattle.gui_wire.specs.Words.{words, all_words};
 
 use crate::words::word_at;
 
@@ -37,4 +37,24 @@ impl<'a> Refs<'a> {
     {
         word_at(self.bytes, i as usize)
     }
+
+    // The bytes as they stand in the body.
+    pub(crate) fn bytes(&self) -> &'a [u8]
+        ensures value { result.now ≡ self.now.bytes.now }
+        ensures len { length result.now ≡ 4 * length (all_words self.now.bytes.now) }
+        ensures small { length result.now < 2 ^ 32 }
+        ensures numbers { words (all_words self.now.bytes.now) ≡ result.now }
+    {
+        spelled_numbers(self.bytes)
+    }
+}
+
+// Bytes, four by four, are the spelling of their numbers.
+fn spelled_numbers(bytes: &[u8]) -> &[u8]
+    requires { length bytes.now % 4 ≡ 0 }
+    ensures value { result.now ≡ bytes.now }
+    ensures len { length bytes.now ≡ 4 * length (all_words bytes.now) }
+    ensures numbers { words (all_words bytes.now) ≡ bytes.now }
+{
+    bytes
 }
