@@ -17,7 +17,7 @@ use Rattle.gui_wire.proofs.WordLemmas.{word_at-word}
 use Rattle.gui_wire.proofs.SpellingLemmas.{length-words, reading-body}
 
 -- one kind, or not
-by_kind : (P : ℕ → Type 0) (k n : ℕ) → P n → ((k == n) ≡ false → P k) → P k
+pub by_kind : (P : ℕ → Type 0) (k n : ℕ) → P n → ((k == n) ≡ false → P k) → P k
 by_kind P k n here other = elim (k == n) as (λ b. (k == n) ≡ b → P k) [ true ↦ λ e. let same : k ≡ n = grind (arith, nat_tests) in subst P (sym same) here | false ↦ other ] refl
 
 -- a fact of each known type, and of each unknown one

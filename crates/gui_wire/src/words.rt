@@ -1,6 +1,6 @@
 // Numbers of 32 bits in bytes, the lowest byte first.
 ghost use Rattle.std.specs.Prelude.{◌≡◌, ◌<◌, ◌≤◌, ◌^◌, ◌+◌, ◌*◌, ◌/◌, [], ◌∷◌, ◌++◌, length, drop};
-ghost use Rattle.gui_wire.specs.Words.{word as spelled, words, word_at, message_bytes};
+ghost use Rattle.gui_wire.specs.Words.{word as spelled, words, word_at, signed_at, message_bytes};
 
 use byteorder::{ByteOrder, LittleEndian};
 
@@ -29,6 +29,14 @@ pub fn word_at(bytes: &[u8], i: usize) -> u32
     ensures { result ≡ word_at i bytes.now }
 {
     LittleEndian::read_u32(&bytes[4 * i..])
+}
+
+// The number with index i, from 0, as two's complement.
+pub fn signed_at(bytes: &[u8], i: usize) -> i32
+    requires { 4 * i + 4 ≤ length bytes.now }
+    ensures { result ≡ signed_at i bytes.now }
+{
+    word_at(bytes, i).cast_signed()
 }
 
 /// Writes one number as four bytes, the lowest first, and answers 4. The rest of `out` stays. A
