@@ -2,5 +2,6 @@ pub mod Config
 pub mod RecordGrammar
 pub mod OutputGrammar
 pub mod Readings
+pub mod Parts
 pub mod FeedReadings
 pub mod DeskPosts
