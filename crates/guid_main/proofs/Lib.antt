@@ -1,1 +1,4 @@
 pub mod ReaderLemmas
+pub mod ItemLemmas
+pub mod FeedLemmas
+pub mod FeedRuns

@@ -1,9 +1,9 @@
 -- What readers take, one after another.
-use Rattle.std.proofs.Common.{◌≡◌, ℕ, zero, suc, ◌+◌, ◌-◌, ◌<◌, ◌≤◌, List, [], ◌∷◌, ◌++◌, length, take, drop, Option, None, Some, Result, Ok, Err, refl, sym, ◌∙◌, ap, subst, arith, append_assoc, append-nil, length-append, length-drop, length-take, Bool, true, false}
+use Rattle.std.proofs.Common.{◌≡◌, ℕ, suc, ◌+◌, ◌<◌, ◌≤◌, List, [], ◌∷◌, ◌++◌, length, take, drop, Option, None, Some, Result, Ok, Err, refl, sym, ◌∙◌, ap, subst, arith, append_assoc, append-nil, length-append, length-take, Bool, true, false}
 use Rattle.std.proofs.Math.Seq.{drop-append_seam, take-append_seam}
 use Rattle.std.proofs.lemmas.List.{take_all, take_min, take-append-drop, drop_all}
 use Rattle.std.proofs.lemmas.Bool.Decides.{nat_tests}
-use Rattle.std.specs.Prelude.{slice_index, nat_lt, not, ◌==◌, if◌then◌else◌, min, ⊤}
+use Rattle.std.specs.Prelude.{slice_index, nat_lt, not, ◌==◌, if◌then◌else◌, min}
 use Rattle.std.specs.Str.{bytes_eq}
 use Rattle.io_ports.specs.Content.{Taken}
 use Rattle.io_ports.specs.declared.feed.RecordKind.TheVariants as kinds
@@ -111,7 +111,7 @@ name_short size xs short = let test : nat_lt (length xs) size ≡ true = grind (
 name_found : (size : ℕ) (bytes : List ℕ) → size ≤ length bytes → name_of size bytes ≡ Ok (take size bytes, drop size bytes)
 name_found size bytes long = let test : nat_lt (length bytes) size ≡ false = grind (arith, nat_tests) in rw test refl
 
-seam : (xs ys : List ℕ) → length xs ≤ length (xs ++ ys)
+pub seam : (xs ys : List ℕ) → length xs ≤ length (xs ++ ys)
 seam xs ys = omega (arith, length-append xs ys)
 
 name_seam : (name tail : List ℕ) → name_of (length name) (name ++ tail) ≡ Ok (name, tail)

@@ -3,5 +3,7 @@ pub mod RecordGrammar
 pub mod OutputGrammar
 pub mod Readings
 pub mod Parts
+pub mod ItemParts
 pub mod FeedReadings
+pub mod FeedRuns
 pub mod DeskPosts

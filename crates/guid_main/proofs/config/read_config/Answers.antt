@@ -1,4 +1,4 @@
-use Rattle.std.proofs.Common.{take, slice_index, refl, sym, ◌∙◌, length-take, arith}
+use Rattle.std.proofs.Common.{take, slice_index, refl, sym, ◌∙◌}
 use Rattle.guid_main.specs.Config.{config_of, guests_of}
 use Rattle.guid_main.proofs.ReaderLemmas.{hands_err, head_is, config_unread, config_wrong, bound, config_head, config_broken, config_done}
 use Rattle.guid_main.proofs.config.read_config.Goals as goal

@@ -1,4 +1,4 @@
-use Rattle.std.proofs.Common.{◌≡◌, ◌≤◌, ℕ, List, Some}
+use Rattle.std.proofs.Common.{◌≤◌}
 use Rattle.io_ports.specs.Content.{Told}
 use Rattle.guid_main.specs.Readings.{Took}
 use Rattle.guid_main.proofs.ReaderLemmas.{Reaches}
