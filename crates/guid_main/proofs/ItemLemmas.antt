@@ -1,197 +1,239 @@
--- What is written for an item, from what guests are told and what the program writes itself.
-use Rattle.std.proofs.Common.{◌≡◌, ℕ, ◌≤◌, List, [], ◌∷◌, ◌++◌, Option, Result, Ok, Err, Bool, true, false, inl, inr, refl, sym, ◌∙◌, ap, subst, arith}
-use Rattle.std.specs.Prelude.{◌⊎◌, OnOk, OnErr}
-use Rattle.std.proofs.lemmas.List.{append-nil}
-use Rattle.desk_laws.specs.declared.setup.Setup.{Setup}
-use Rattle.desk_laws.specs.declared.item.Item.{Item}
+-- What the items of a record are, one after another.
+use Rattle.std.proofs.Common.{◌≡◌, ℕ, zero, suc, ◌+◌, ◌<◌, ◌≤◌, List, [], ◌∷◌, ◌++◌, length, take, drop, Option, Result, Ok, Err, refl, sym, ◌∙◌, ap, subst, arith, append_assoc, length-append, length-drop, Bool, true, false}
+use Rattle.std.proofs.lemmas.Bool.Decides.{nat_tests}
+use Rattle.std.specs.Prelude.{slice_index, nat_lt, nat_le, ◌==◌, ◌&&◌, if◌then◌else◌}
+use Rattle.io_ports.specs.declared.feed.RecordKind.{RecordKind}
+use Rattle.io_ports.specs.declared.feed.RecordKind.TheVariants as kinds
+use Rattle.io_ports.specs.declared.feed.FeedFault.{FeedFault}
+use Rattle.io_ports.specs.declared.feed.FeedFault.TheVariants as feeds
+use Rattle.io_ports.specs.Feeds.{Answer}
 use Rattle.desk_laws.specs.declared.item.Item.TheVariants as items
-use Rattle.desk_laws.specs.Picture.{picture}
-use Rattle.desk_laws.specs.Scene.{Counts}
-use Rattle.desk_laws.specs.State.{DeskState, count_item}
-use Rattle.desk_laws.specs.Steps.{step}
-use Rattle.io_ports.specs.declared.source.Failed.{Failed}
-use Rattle.io_ports.specs.Content.{Grows, GrowsPart, IsPrefix}
-use Rattle.io_ports.specs.Counts.{Rose, HasCause}
-use Rattle.io_ports.proofs.GrowLemmas.{grows_on, part_behind, part_front, prefix_self, prefix_nil}
-use Rattle.guid_main.specs.declared.desk.Desk.{Desk}
-use Rattle.guid_main.specs.declared.desk.Summary.{Summary}
-use Rattle.guid_main.specs.declared.desk.Stepped.{Stepped}
-use Rattle.guid_main.specs.declared.desk.Stepped.TheVariants as stepped
-use Rattle.guid_main.specs.DeskStands.{Stands, picture_of, stepped_of, summary_of}
-use Rattle.guid_main.specs.ItemWrites.{Wrote, StepWrites, guest_bytes_of, step_bytes}
-use Rattle.guid_main.specs.OutputGrammar.{picture_record, summary_record, painted_after}
-use Rattle.guid_main.specs.PictureView.{PictureView}
-use Rattle.guid_main.proofs.DeskFacts.{width_is, height_is}
-use Rattle.guid_main.proofs.GuestPosts.{is_quiet, quiet_bytes}
-use Rattle.guid_main.proofs.WriterLemmas.{rose_before}
+use Rattle.desk_laws.specs.Items.{FedItem}
+use Rattle.desk_laws.specs.Frames.{counted}
+use Rattle.guid_main.specs.declared.part.PartRead.{PartRead}
+use Rattle.guid_main.specs.declared.part.PartRead.TheVariants as parts
+use Rattle.guid_main.specs.Config.{fault, number_at}
+use Rattle.guid_main.specs.Parts.{Fills}
+use Rattle.guid_main.specs.ItemParts.{no_item, item_size, Finds}
+use Rattle.guid_main.specs.Readings.{Took}
+use Rattle.guid_main.specs.RecordGrammar.{Items, Faulty, alone, bytes_at, item_at, nothing_but, item_and, items_step, items_within, items_from}
+use Rattle.guid_main.proofs.ReaderLemmas.{took_on, front_is, back_is, seam}
 
--- an item is quiet, or it is Snap or End, by its answer
-pub quiet_is : (item : Item) → stepped.Going ≡ stepped_of item → is_quiet item ≡ true
-quiet_is (items.Bytes guest) is = refl
-quiet_is (items.Closed guest) is = refl
-quiet_is (items.Store guest delay page offset) is = refl
-quiet_is (items.Key down code state) is = refl
-quiet_is (items.Move x y state) is = refl
-quiet_is (items.Press down button state) is = refl
-quiet_is items.Close is = refl
-quiet_is items.Next is = refl
-quiet_is items.Restore is = refl
-quiet_is (items.MoveTo x y) is = refl
-quiet_is (items.SizeTo w h) is = refl
-quiet_is items.Snap is = absurd (cc)
-quiet_is items.End is = absurd (cc)
-quiet_is (items.Lost guest) is = refl
-quiet_is items.Idle is = refl
+-- so many bytes more were read, and behind them it is found thus
+pub record Behind (find : List ℕ → Result (FedItem × ℕ) RecordKind) (before : ℕ) (next : List ℕ → Result (FedItem × ℕ) RecordKind) (after : ℕ) (taken : List ℕ) : Type 0 where
+  pub size : before + length taken ≡ after
+  pub goes : (tail : List ℕ) → find (taken ++ tail) ≡ next tail
 
--- an item is quiet, Snap or End
-pub kind_of : (item : Item) → (is_quiet item ≡ true) ⊎ ((item ≡ items.Snap) ⊎ (item ≡ items.End))
-kind_of (items.Bytes guest) = inl refl
-kind_of (items.Closed guest) = inl refl
-kind_of (items.Store guest delay page offset) = inl refl
-kind_of (items.Key down code state) = inl refl
-kind_of (items.Move x y state) = inl refl
-kind_of (items.Press down button state) = inl refl
-kind_of items.Close = inl refl
-kind_of items.Next = inl refl
-kind_of items.Restore = inl refl
-kind_of (items.MoveTo x y) = inl refl
-kind_of (items.SizeTo w h) = inl refl
-kind_of items.Snap = inr (inl refl)
-kind_of items.End = inr (inr refl)
-kind_of (items.Lost guest) = inl refl
-kind_of items.Idle = inl refl
+-- what is found then is found in the whole
+pub finds_on : (find next : List ℕ → Result (FedItem × ℕ) RecordKind) (before after at : ℕ) (answer : Answer) (bytes : List ℕ) (mid left : Option (List ℕ))
+    → (first : Took bytes mid (Behind find before next after)) → Finds next after at answer first.rest left → Finds find before at answer bytes left
+finds_on find next before after at (Ok given) bytes mid left first last =
+    took_on bytes mid left _ _ _ first last
+    (λ xs ys one two.
+    let size : after + length ys ≡ before + length (xs ++ ys) = omega (arith, one.size, length-append xs ys) in (
+      two.0 ∙ size,
+      λ tail. ap find (append_assoc xs ys tail) ∙ one.goes (ys ++ tail) ∙ two.1 tail ∙ ap (λ (n : ℕ). Ok (given, n)) size,
+    ))
+finds_on find next before after at (Err (feeds.Bad f)) bytes mid left first last =
+    (ap find first.split ∙ first.holds.goes first.rest ∙ last.0, last.1, last.2)
+finds_on find next before after at (Err feeds.Failed) bytes mid left first last =
+    took_on bytes mid left _ _ _ first last (λ xs ys one two. one.goes ys ∙ two)
 
-going_of : (item : Item) → is_quiet item ≡ true → stepped_of item ≡ stepped.Going
-going_of (items.Bytes guest) quiet = refl
-going_of (items.Closed guest) quiet = refl
-going_of (items.Store guest delay page offset) quiet = refl
-going_of (items.Key down code state) quiet = refl
-going_of (items.Move x y state) quiet = refl
-going_of (items.Press down button state) quiet = refl
-going_of items.Close quiet = refl
-going_of items.Next quiet = refl
-going_of items.Restore quiet = refl
-going_of (items.MoveTo x y) quiet = refl
-going_of (items.SizeTo w h) quiet = refl
-going_of items.Snap quiet = absurd (cc)
-going_of items.End quiet = absurd (cc)
-going_of (items.Lost guest) quiet = refl
-going_of items.Idle quiet = refl
+part_missing : (find : List ℕ → Result (FedItem × ℕ) RecordKind) (before at : ℕ) (part : PartRead) (room bytes : List ℕ) (left : Option (List ℕ))
+    → ((xs : List ℕ) → length xs < length room → find xs ≡ Err kinds.Short) → Fills (Err part) room bytes left → Finds find before at (Err (no_item at part)) bytes left
+part_missing find before at parts.Failed room bytes left short fills =
+    record { taken = fills.taken; rest = fills.rest; split = fills.split; is_left = fills.is_left; holds = short fills.taken fills.holds }
+part_missing find before at parts.Short room bytes left short fills = (short bytes fills.0, refl, ([], fills.1))
 
-pub snap_is : (item : Item) → stepped.Snap ≡ stepped_of item → item ≡ items.Snap
-snap_is item is = elim (kind_of item) [
-  | inl quiet ↦ absurd (let e : stepped.Snap ≡ stepped.Going = is ∙ going_of item quiet in cc)
-  | inr (inl snap) ↦ snap
-  | inr (inr end) ↦ absurd (let e : stepped.Snap ≡ stepped.Ended = is ∙ ap stepped_of end in cc)
-]
+-- a part that wasn't read
+pub part_unfound : (find : List ℕ → Result (FedItem × ℕ) RecordKind) (before at : ℕ) (part : PartRead) (e : FeedFault) (room bytes : List ℕ) (left : Option (List ℕ)) → e ≡ no_item at part
+    → ((xs : List ℕ) → length xs < length room → find xs ≡ Err kinds.Short) → Fills (Err part) room bytes left → Finds find before at (Err e) bytes left
+part_unfound find before at part e room bytes left is short fills =
+    subst (λ (r : FeedFault). Finds find before at (Err r) bytes left) (sym is) (part_missing find before at part room bytes left short fills)
 
-pub end_is : (item : Item) → stepped.Ended ≡ stepped_of item → item ≡ items.End
-end_is item is = elim (kind_of item) [
-  | inl quiet ↦ absurd (let e : stepped.Ended ≡ stepped.Going = is ∙ going_of item quiet in cc)
-  | inr (inl snap) ↦ absurd (let e : stepped.Ended ≡ stepped.Snap = is ∙ ap stepped_of snap in cc)
-  | inr (inr end) ↦ end
-]
+-- a part that was read
+pub part_behind : (find : List ℕ → Result (FedItem × ℕ) RecordKind) (before : ℕ) (next : List ℕ → Result (FedItem × ℕ) RecordKind) (after : ℕ) (room bytes : List ℕ) (left : Option (List ℕ))
+    → Behind find before next after room → Fills (Ok tt) room bytes left → Took bytes left (Behind find before next after)
+part_behind find before next after room bytes left behind fills =
+    record { taken = fills.taken; rest = fills.rest; split = fills.split; is_left = fills.is_left; holds = subst (Behind find before next after) (sym fills.holds) behind }
 
--- what guests are told is the first of what a step gives
-told_first : (setup : Setup) (p : ℕ) (item : Item) (piece : List ℕ) (state : DeskState) → IsPrefix (guest_bytes_of setup item piece state) (step_bytes p setup item piece state)
-told_first setup p item piece state = elim (kind_of item) [
-  | inl quiet ↦ subst (λ (l : List ℕ). IsPrefix (guest_bytes_of setup item piece state) l) (quiet_bytes setup 0 p item piece state quiet) (prefix_self (guest_bytes_of setup item piece state))
-  | inr (inl snap) ↦ subst (λ (i : Item). IsPrefix (guest_bytes_of setup i piece state) (step_bytes p setup i piece state)) (sym snap) (prefix_nil _)
-  | inr (inr end) ↦ subst (λ (i : Item). IsPrefix (guest_bytes_of setup i piece state) (step_bytes p setup i piece state)) (sym end) (prefix_nil _)
-]
-
-pub wrote_of : {T : Type 0} (r : Result T Failed) (bytes : List ℕ) (before after : Option (List ℕ)) → OnOk r (Grows before bytes after) → OnErr r (GrowsPart before bytes after) → Wrote r bytes before after
-wrote_of (Ok x) bytes before after ok err = ok
-wrote_of (Err e) bytes before after ok err = err
-
-wrote_behind : {T : Type 0} (r : Result T Failed) (xs ys whole : List ℕ) (a b c : Option (List ℕ)) → Grows a xs b → Wrote r ys b c → xs ++ ys ≡ whole → Wrote r whole a c
-wrote_behind (Ok x) xs ys whole a b c first second is = grows_on a b c xs ys whole first second is
-wrote_behind (Err e) xs ys whole a b c first second is = part_behind a b c xs ys whole first second is
-
-cause_behind : {T : Type 0} (r : Result T Failed) (f g h : ℕ) → f ≤ g → HasCause g h r → HasCause f h r
-cause_behind (Ok x) f g h le cause = record { later = omega (arith, cause.later); failed = tt }
-cause_behind (Err e) f g h le cause = record { later = omega (arith, cause.later); failed = rose_before f g h le cause.failed }
-
--- ---- the four ways
-
-pub item_failed : {T : Type 0} (setup : Setup) (p : ℕ) (item : Item) (piece : List ℕ) (state : DeskState) (old new : Desk) (e : Failed) (a b : Option (List ℕ)) (f g : ℕ) (keeps : Type 0)
-    → StepWrites {T = Stepped} setup item piece state old new (Err e) (guest_bytes_of setup item piece state) a b f g keeps
-    → StepWrites {T = T} setup item piece state old new (Err e) (step_bytes p setup item piece state) a b f g keeps
-item_failed setup p item piece state old new e a b f g keeps told = record {
-  stands = told.stands;
-  painted = told.painted;
-  wrote = part_front a b (guest_bytes_of setup item piece state) _ told.wrote (told_first setup p item piece state);
-  cause = record { later = told.cause.later; failed = told.cause.failed };
-  keeps_sink = told.keeps_sink;
+-- an item that was found whole
+pub whole_found : (find : List ℕ → Result (FedItem × ℕ) RecordKind) (before size at : ℕ) (given : FedItem) (room bytes : List ℕ) (left : Option (List ℕ))
+    → size ≡ before + length room → item_size given.item (length given.piece) ≡ size → ((tail : List ℕ) → find (room ++ tail) ≡ Ok (given, size))
+    → Fills (Ok tt) room bytes left → Finds find before at (Ok given) bytes left
+whole_found find before size at given room bytes left is takes found fills = record {
+  taken = fills.taken;
+  rest = fills.rest;
+  split = fills.split;
+  is_left = fills.is_left;
+  holds = subst (λ (l : List ℕ). (item_size given.item (length given.piece) ≡ before + length l) × ((tail : List ℕ) → find (l ++ tail) ≡ Ok (given, before + length l))) (sym fills.holds)
+      (takes ∙ is, λ tail. found tail ∙ ap (λ (n : ℕ). Ok (given, n)) is);
 }
 
-pub item_going : (setup : Setup) (p : ℕ) (item : Item) (piece : List ℕ) (state : DeskState) (old new : Desk) (answer : Stepped) (a b : Option (List ℕ)) (f g : ℕ) (keeps : Type 0)
-    → StepWrites {T = Stepped} setup item piece state old new (Ok answer) (guest_bytes_of setup item piece state) a b f g keeps → stepped.Going ≡ stepped_of item
-    → StepWrites {T = Unit {0}} setup item piece state old new (Ok tt) (step_bytes p setup item piece state) a b f g keeps
-item_going setup p item piece state old new answer a b f g keeps told is = record {
-  stands = told.stands;
-  painted = told.painted;
-  wrote = subst (λ (l : List ℕ). Grows a l b) (quiet_bytes setup 0 p item piece state (quiet_is item is)) told.wrote;
-  cause = record { later = told.cause.later; failed = tt };
-  keeps_sink = told.keeps_sink;
+-- a fault that is found behind a part
+pub fault_behind : (find next : List ℕ → Result (FedItem × ℕ) RecordKind) (before after at : ℕ) (kind : RecordKind) (e : FeedFault) (bytes : List ℕ) (left : Option (List ℕ)) → e ≡ feeds.Bad (fault at kind)
+    → ((tail : List ℕ) → next tail ≡ Err kind) → Took bytes left (Behind find before next after) → Finds find before at (Err e) bytes left
+fault_behind find next before after at kind e bytes left is wrong first =
+    subst (λ (r : FeedFault). Finds find before at (Err r) bytes left) (sym is)
+    (ap find first.split ∙ first.holds.goes first.rest ∙ wrong first.rest, refl, (first.rest, first.is_left))
+
+-- what stands behind a kind byte
+abbrev pub behind_kind : ℕ → ℕ → List ℕ → Result (FedItem × ℕ) RecordKind
+behind_kind guests kind rest =
+    if kind == 2 then bytes_at guests rest
+    else if kind == 9 then Ok (alone items.Snap, 1)
+    else if kind == 10 then Ok (alone items.End, 1)
+    else Err kinds.Kind
+
+pub kind_short : (guests : ℕ) (xs : List ℕ) → length xs < 1 → item_at guests xs ≡ Err kinds.Short
+kind_short guests [] short = refl
+kind_short guests (k ∷ xs) short = absurd (omega arith)
+
+pub kind_behind : (guests : ℕ) (room : List ℕ) → length room ≡ 1 → Behind (item_at guests) 0 (behind_kind guests (slice_index room 0)) 1 room
+kind_behind guests [] is = absurd (omega arith)
+kind_behind guests (k ∷ []) is = record { size = omega arith; goes = λ tail. refl }
+kind_behind guests (k ∷ l ∷ room) is = absurd (omega arith)
+
+pub kind_bytes : (guests kind : ℕ) → kind ≡ 2 → (tail : List ℕ) → behind_kind guests kind tail ≡ bytes_at guests tail
+kind_bytes guests kind is tail = ap (λ (k : ℕ). behind_kind guests k tail) is
+
+pub kind_snap : (guests kind : ℕ) → kind ≡ 9 → (tail : List ℕ) → behind_kind guests kind tail ≡ Ok (alone items.Snap, 1)
+kind_snap guests kind is tail = ap (λ (k : ℕ). behind_kind guests k tail) is
+
+pub kind_end : (guests kind : ℕ) → kind ≡ 10 → (tail : List ℕ) → behind_kind guests kind tail ≡ Ok (alone items.End, 1)
+kind_end guests kind is tail = ap (λ (k : ℕ). behind_kind guests k tail) is
+
+pub kind_other : (guests kind : ℕ) → (kind ≡ 2 → ⊥) → (kind ≡ 9 → ⊥) → (kind ≡ 10 → ⊥) → (tail : List ℕ) → behind_kind guests kind tail ≡ Err kinds.Kind
+kind_other guests kind not_bytes not_snap not_end tail = grind (arith, nat_tests)
+
+-- what stands behind the guest and the length of a piece
+abbrev pub piece_at : ℕ → ℕ → ℕ → List ℕ → Result (FedItem × ℕ) RecordKind
+piece_at guests guest size rest =
+    if nat_lt guest guests && (nat_le 1 size && nat_le size 65536)
+    then (if nat_lt (length rest) size then Err kinds.Short else Ok (record { item = items.Bytes guest; piece = take size rest }, 6 + size))
+    else Err kinds.Range
+
+pub bytes_short : (guests : ℕ) (xs : List ℕ) → length xs < 5 → bytes_at guests xs ≡ Err kinds.Short
+bytes_short guests xs short = let test : nat_lt (length xs) 5 ≡ true = grind (arith, nat_tests) in rw test refl
+
+bytes_found : (guests : ℕ) (xs : List ℕ) → 5 ≤ length xs → bytes_at guests xs ≡ piece_at guests (slice_index xs 0) (number_at 1 (take 5 xs)) (drop 5 xs)
+bytes_found guests xs long = let test : nat_lt (length xs) 5 ≡ false = grind (arith, nat_tests) in rw test refl
+
+first_is : (fixed tail : List ℕ) → 1 ≤ length fixed → slice_index (fixed ++ tail) 0 ≡ slice_index fixed 0
+first_is [] tail some = absurd (omega arith)
+first_is (x ∷ fixed) tail some = refl
+
+pub bytes_behind : (guests guest size : ℕ) (fixed : List ℕ) → length fixed ≡ 5 → guest ≡ slice_index fixed 0 → size ≡ number_at 1 fixed
+    → Behind (bytes_at guests) 1 (piece_at guests guest size) 6 fixed
+bytes_behind guests guest size fixed is guest_is size_is = record {
+  size = omega arith;
+  goes = λ tail.
+      bytes_found guests (fixed ++ tail) (omega (arith, is, seam fixed tail))
+      ∙ (λ i. piece_at guests (first_is fixed tail (omega arith) i) (number_at 1 (front_is 5 fixed tail is i)) (back_is 5 fixed tail is i))
+      ∙ (λ i. piece_at guests (sym guest_is i) (sym size_is i) tail);
 }
 
-pub item_snap : (setup : Setup) (p : ℕ) (item : Item) (piece : List ℕ) (state : DeskState) (old new : Desk) (answer : Stepped) (view : PictureView) (r : Result (Unit {0}) Failed) (a b c : Option (List ℕ)) (f g h : ℕ) (keeps keeps' : Type 0)
-    → StepWrites {T = Stepped} setup item piece state old new (Ok answer) (guest_bytes_of setup item piece state) a b f g keeps → item ≡ items.Snap
-    → view ≡ picture_of new → (picture_of new).pixels ≡ picture setup state.scene.rows state.scene.layers
-    → Wrote r (picture_record view.width view.height view.pixels) b c → HasCause g h r → (keeps → keeps')
-    → StepWrites {T = Unit {0}} setup item piece state old new r (step_bytes p setup item piece state) a c f h keeps'
-item_snap setup p item piece state old new answer view r a b c f g h keeps keeps' told snap shows drawn wrote cause on =
-    let pixels = picture setup state.scene.rows state.scene.layers in
-    let none : guest_bytes_of setup item piece state ≡ [] = ap (λ (i : Item). guest_bytes_of setup i piece state) snap in
-    let record_is : picture_record view.width view.height view.pixels ≡ picture_record setup.width setup.height pixels =
-    ap (λ (v : PictureView). picture_record v.width v.height v.pixels) shows
-    ∙ ap (λ (w : ℕ). picture_record w (picture_of new).height (picture_of new).pixels) (width_is setup new _ told.stands)
-    ∙ ap (λ (n : ℕ). picture_record setup.width n (picture_of new).pixels) (height_is setup new _ told.stands)
-    ∙ ap (picture_record setup.width setup.height) drawn in
-    let whole : guest_bytes_of setup item piece state ++ picture_record view.width view.height view.pixels ≡ step_bytes p setup item piece state =
-    ap (λ (l : List ℕ). l ++ picture_record view.width view.height view.pixels) none ∙ record_is
-    ∙ sym (append-nil (picture_record setup.width setup.height pixels)) ∙ ap (λ (i : Item). step_bytes p setup i piece state) (sym snap) in
-    record {
-      stands = told.stands;
-      painted = told.painted;
-      wrote = wrote_behind r _ _ _ a b c told.wrote wrote whole;
-      cause = cause_behind r f g h told.cause.later cause;
-      keeps_sink = on told.keeps_sink;
-    }
+pub piece_range : (guests guest size : ℕ) (b : Bool) → b ≡ nat_lt guest guests && (nat_le 1 size && nat_le size 65536) → b ≡ false → (tail : List ℕ) → piece_at guests guest size tail ≡ Err kinds.Range
+piece_range guests guest size b is fails tail = let test : (nat_lt guest guests && (nat_le 1 size && nat_le size 65536)) ≡ false = sym is ∙ fails in rw test refl
 
-pub item_ended : (setup : Setup) (item : Item) (piece : List ℕ) (state : DeskState) (old new : Desk) (answer : Stepped) (summary : Summary) (r : Result (Unit {0}) Failed) (a b c : Option (List ℕ)) (f g h : ℕ) (keeps keeps' : Type 0)
-    → StepWrites {T = Stepped} setup item piece state old new (Ok answer) (guest_bytes_of setup item piece state) a b f g keeps → item ≡ items.End
-    → ((setup : Setup) (state : DeskState) → Stands setup new state → summary ≡ summary_of state.counts (picture_of new).painted)
-    → Wrote r (summary_record (record { items = summary.items; messages = summary.messages; glances = summary.glances }) summary.painted) b c → HasCause g h r → (keeps → keeps')
-    → StepWrites {T = Unit {0}} setup item piece state old new r (step_bytes (picture_of new).painted setup item piece state) a c f h keeps'
-item_ended setup item piece state old new answer summary r a b c f g h keeps keeps' told end sums wrote cause on =
-    let p = (picture_of new).painted in
-    let none : guest_bytes_of setup item piece state ≡ [] = ap (λ (i : Item). guest_bytes_of setup i piece state) end in
-    let bytes_of = λ (s : Summary). summary_record (record { items = s.items; messages = s.messages; glances = s.glances }) s.painted in
-    let record_is : bytes_of summary ≡ summary_record (step setup item piece state).desk.counts p = ap bytes_of (sums setup _ told.stands) in
-    let counts : summary_record (step setup item piece state).desk.counts p ≡ summary_record (count_item state).counts p =
-    ap (λ (i : Item). summary_record (step setup i piece state).desk.counts p) end in
-    let whole : guest_bytes_of setup item piece state ++ bytes_of summary ≡ step_bytes p setup item piece state =
-    ap (λ (l : List ℕ). l ++ bytes_of summary) none ∙ record_is ∙ counts
-    ∙ sym (append-nil (summary_record (count_item state).counts p)) ∙ ap (λ (i : Item). step_bytes p setup i piece state) (sym end) in
-    record {
-      stands = told.stands;
-      painted = told.painted;
-      wrote = wrote_behind r _ _ _ a b c told.wrote wrote whole;
-      cause = cause_behind r f g h told.cause.later cause;
-      keeps_sink = on told.keeps_sink;
-    }
+pub piece_most : (guests guest size : ℕ) (b : Bool) → b ≡ nat_lt guest guests && (nat_le 1 size && nat_le size 65536) → b ≡ true → size ≤ 65536
+piece_most guests guest size b is passes = let test : (nat_lt guest guests && (nat_le 1 size && nat_le size 65536)) ≡ true = sym is ∙ passes in grind (arith, nat_tests)
 
--- what a writer wrote to the sink that it lends, as the sink's
-pub told_to : {O T : Type 0} (written : O → Option (List ℕ)) (faults : O → ℕ) (keeps : O → O → Type 0) (setup : Setup) (item : Item) (piece : List ℕ) (state : DeskState) (old new : Desk)
-    (r : Result T Failed) (bytes : List ℕ) (a m b : O) → b ≡ m → Wrote r bytes (written a) (written m) × HasCause (faults a) (faults m) r → keeps a m
-    → Stands setup new (step setup item piece state).desk → (picture_of new).painted ≡ painted_after setup item (picture_of old).painted
-    → StepWrites setup item piece state old new r bytes (written a) (written b) (faults a) (faults b) (keeps a b)
-told_to {O} written faults keeps setup item piece state old new r bytes a m b is wrote kept stands painted = record {
-  stands = stands;
-  painted = painted;
-  wrote = subst (λ (o : O). Wrote r bytes (written a) (written o)) (sym is) wrote.0;
-  cause = subst (λ (o : O). HasCause (faults a) (faults o) r) (sym is) wrote.1;
-  keeps_sink = subst (λ (o : O). keeps a o) (sym is) kept;
-}
+pub piece_short : (guests guest size : ℕ) (b : Bool) → b ≡ nat_lt guest guests && (nat_le 1 size && nat_le size 65536) → b ≡ true → (xs : List ℕ) → length xs < size → piece_at guests guest size xs ≡ Err kinds.Short
+piece_short guests guest size b is passes xs short =
+    let test : (nat_lt guest guests && (nat_le 1 size && nat_le size 65536)) ≡ true = sym is ∙ passes in
+    let few : nat_lt (length xs) size ≡ true = grind (arith, nat_tests) in
+    rw (test, few) refl
+
+piece_found : (guests guest size : ℕ) (b : Bool) → b ≡ nat_lt guest guests && (nat_le 1 size && nat_le size 65536) → b ≡ true → (xs : List ℕ) → size ≤ length xs
+    → piece_at guests guest size xs ≡ Ok (record { item = items.Bytes guest; piece = take size xs }, 6 + size)
+piece_found guests guest size b is passes xs long =
+    let test : (nat_lt guest guests && (nat_le 1 size && nat_le size 65536)) ≡ true = sym is ∙ passes in
+    let enough : nat_lt (length xs) size ≡ false = grind (arith, nat_tests) in
+    rw (test, enough) refl
+
+pub piece_whole : (guests guest size : ℕ) (b : Bool) → b ≡ nat_lt guest guests && (nat_le 1 size && nat_le size 65536) → b ≡ true → (room : List ℕ) → length room ≡ size → (tail : List ℕ)
+    → piece_at guests guest size (room ++ tail) ≡ Ok (record { item = items.Bytes guest; piece = room }, 6 + length room)
+piece_whole guests guest size b is passes room long tail =
+    piece_found guests guest size b is passes (room ++ tail) (omega (arith, long, seam room tail))
+    ∙ (λ i. Ok (record { item = items.Bytes guest; piece = front_is size room tail long i }, 6 + sym long i))
+
+-- the piece that was read into the front of a room
+pub piece_read : (guests guest size at : ℕ) (b : Bool) (piece room behind bytes : List ℕ) (left : Option (List ℕ))
+    → b ≡ nat_lt guest guests && (nat_le 1 size && nat_le size 65536) → b ≡ true → length room ≡ size → piece ≡ take size (room ++ behind)
+    → Fills (Ok tt) room bytes left → Finds (piece_at guests guest size) 6 at (Ok (record { item = items.Bytes guest; piece = piece })) bytes left
+piece_read guests guest size at b piece room behind bytes left is passes long same fills =
+    let whole : piece ≡ room = same ∙ front_is size room behind long in
+    let takes : 6 + length piece ≡ 6 + length room = omega (arith, ap length whole) in
+    whole_found (piece_at guests guest size) 6 (6 + length room) at (record { item = items.Bytes guest; piece = piece }) room bytes left refl takes
+    (λ tail. piece_whole guests guest size b is passes room long tail ∙ (λ i. Ok (record { item = items.Bytes guest; piece = sym whole i }, 6 + length room))) fills
+
+-- how many bytes were found, or 1
+abbrev sized : Result (FedItem × ℕ) RecordKind → ℕ
+sized (Ok found) = found.1
+sized (Err kind) = 1
+
+sized_piece : (a b : Bool) (given : FedItem) (size : ℕ) → 1 ≤ sized (if a then (if b then Err kinds.Short else Ok (given, 6 + size)) else Err kinds.Range)
+sized_piece true true given size = omega arith
+sized_piece true false given size = omega arith
+sized_piece false b given size = omega arith
+
+sized_bytes : (a : Bool) (r : Result (FedItem × ℕ) RecordKind) → 1 ≤ sized r → 1 ≤ sized (if a then Err kinds.Short else r)
+sized_bytes true r some = omega arith
+sized_bytes false r some = some
+
+sized_kind : (a b d : Bool) (r : Result (FedItem × ℕ) RecordKind) → 1 ≤ sized r
+    → 1 ≤ sized (if a then r else if b then Ok (alone items.Snap, 1) else if d then Ok (alone items.End, 1) else Err kinds.Kind)
+sized_kind true b d r some = some
+sized_kind false true d r some = omega arith
+sized_kind false false true r some = omega arith
+sized_kind false false false r some = omega arith
+
+bytes_sized : (guests : ℕ) (rest : List ℕ) → 1 ≤ sized (bytes_at guests rest)
+bytes_sized guests rest =
+    let size = number_at 1 (take 5 rest) in
+    sized_bytes (nat_lt (length rest) 5) _
+    (sized_piece (nat_lt (slice_index rest 0) guests && (nat_le 1 size && nat_le size 65536)) (nat_lt (length (drop 5 rest)) size) (record { item = items.Bytes (slice_index rest 0); piece = take size (drop 5 rest) }) size)
+
+-- an item that was found takes a byte at least, and there is one
+record Takes (size : ℕ) (bytes : List ℕ) : Type 0 where
+  some : 1 ≤ size
+  there : 1 ≤ length bytes
+
+takes_some : (guests size : ℕ) (bytes : List ℕ) (given : FedItem) → item_at guests bytes ≡ Ok (given, size) → Takes size bytes
+takes_some guests size [] given is = absurd (cc)
+takes_some guests size (kind ∷ rest) given is =
+    let same : sized (item_at guests (kind ∷ rest)) ≡ size = ap sized is in
+    let least : 1 ≤ sized (item_at guests (kind ∷ rest)) = sized_kind (kind == 2) (kind == 9) (kind == 10) (bytes_at guests rest) (bytes_sized guests rest) in
+    record { some = subst (λ (n : ℕ). 1 ≤ n) same least; there = omega arith }
+
+step_same : (at : ℕ) (r : Result (FedItem × ℕ) RecordKind) (f g : ℕ → Items) → ((given : FedItem) (size : ℕ) → r ≡ Ok (given, size) → f size ≡ g size) → items_step at r f ≡ items_step at r g
+step_same at (Err k) f g same = refl
+step_same at (Ok found) f g same = ap (item_and found.0) (same found.0 found.1 refl)
+
+-- more turns than bytes are as good as any
+enough : (m n guests at : ℕ) (bytes : List ℕ) → length bytes < m → length bytes < n → items_within m guests at bytes ≡ items_within n guests at bytes
+enough zero n guests at bytes lt_m lt_n = absurd (omega arith)
+enough (suc m) zero guests at bytes lt_m lt_n = absurd (omega arith)
+enough (suc m) (suc n) guests at bytes lt_m lt_n = step_same at (item_at guests bytes) _ _ (λ given size is.
+    let one = takes_some guests size bytes given is in
+    enough m n guests (counted (at + size)) (drop size bytes)
+    (omega (arith, one.some, one.there, length-drop size bytes)) (omega (arith, one.some, one.there, length-drop size bytes)))
+
+pub from_step : (guests at : ℕ) (bytes : List ℕ) → items_from guests at bytes ≡ items_step at (item_at guests bytes) (λ size. items_from guests (counted (at + size)) (drop size bytes))
+unfolding items_from
+from_step guests at bytes = step_same at (item_at guests bytes) _ _ (λ given size is.
+    let one = takes_some guests size bytes given is in
+    enough (length bytes) (suc (length (drop size bytes))) guests (counted (at + size)) (drop size bytes)
+    (omega (arith, one.some, one.there, length-drop size bytes)) (omega arith))
+
+-- where a fault stands, there is no item
+pub from_fault : (guests at : ℕ) (bytes : List ℕ) (kind : RecordKind) → item_at guests bytes ≡ Err kind → items_from guests at bytes ≡ nothing_but (Faulty (fault at kind))
+from_fault guests at bytes kind is =
+    from_step guests at bytes ∙ ap (λ (r : Result (FedItem × ℕ) RecordKind). items_step at r (λ size. items_from guests (counted (at + size)) (drop size bytes))) is
+
+-- where an item stands, it is the first
+pub from_item : (guests at size : ℕ) (bytes : List ℕ) (given : FedItem) → item_at guests bytes ≡ Ok (given, size)
+    → items_from guests at bytes ≡ item_and given (items_from guests (counted (at + size)) (drop size bytes))
+from_item guests at size bytes given is =
+    from_step guests at bytes ∙ ap (λ (r : Result (FedItem × ℕ) RecordKind). items_step at r (λ size. items_from guests (counted (at + size)) (drop size bytes))) is

@@ -2,5 +2,10 @@ pub mod PictureLemmas
 pub mod GuestPosts
 pub mod WriterLemmas
 pub mod DeskFacts
-pub mod ItemLemmas
+pub mod ItemWriteLemmas
 pub mod RunLemmas
+pub mod ReaderLemmas
+pub mod ItemLemmas
+pub mod FeedLemmas
+pub mod FeedRuns
+pub mod AnswerLemmas

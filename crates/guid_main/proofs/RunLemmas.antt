@@ -1,5 +1,7 @@
 -- What was given and written so far, and what each outcome says then.
-use Rattle.std.proofs.Common.{◌≡◌, ℕ, zero, suc, ◌+◌, ◌<◌, ◌≤◌, List, [], ◌∷◌, ◌++◌, length, take, Option, Some, None, Ok, Err, true, false, refl, sym, ◌∙◌, ap, subst, arith, append_assoc, length-append}
+use Rattle.std.proofs.Common.{◌≡◌, ℕ, zero, suc, ◌+◌, ◌<◌, ◌≤◌, List, [], ◌∷◌, ◌++◌, length, take, Option, Some, None, Ok, Err, true, false, Bool, inl, inr, refl, sym, ◌∙◌, ap, subst, arith, append_assoc, length-append}
+use Rattle.std.specs.Prelude.{◌⊎◌}
+use Rattle.std.proofs.lemmas.Bool.{cases_Bool}
 use Rattle.std.proofs.lemmas.List.{append-nil}
 use Rattle.std.proofs.lemmas.List.Concat.{flat_map-append}
 use Rattle.desk_laws.specs.declared.setup.Setup.{Setup}
@@ -7,6 +9,8 @@ use Rattle.desk_laws.specs.declared.item.Item.{Item}
 use Rattle.desk_laws.specs.declared.item.Item.TheVariants as items
 use Rattle.desk_laws.specs.Items.{FedItem, IsInRange, FitsItem}
 use Rattle.desk_laws.specs.Scene.{Post}
+use Rattle.desk_laws.specs.Stage.{takes_guests}
+use Rattle.std.proofs.lemmas.Bool.Decides.{nat_tests}
 use Rattle.desk_laws.specs.State.{DeskState, opening}
 use Rattle.desk_laws.specs.Steps.{step, run}
 use Rattle.io_ports.specs.Content.{Grows, GrowsPart}
@@ -156,12 +160,16 @@ ended gives setup n bound first feed after_feed desk new g before mid after so_f
       );
     }
 
+ends_behind : (given : List FedItem) (g : FedItem) → NoEnd given → (is_end g.item ≡ false) ⊎ (g ≡ alone items.End) → EndsNowhereElse (given ++ g ∷ [])
+ends_behind given g none (inl more) = inl (no_end_more given g none more)
+ends_behind given g none (inr end) = inr (record { front = given; is = ap (λ (x : FedItem). given ++ x ∷ []) end; no_end = none })
+
 pub cut_short : {F : Type 0} (gives : F → Answer → F → Type 0) (setup : Setup) (n bound : ℕ) (first feed after_feed : F) (desk new : Desk) (g : FedItem) (before mid after : Option (List ℕ))
-    → (so_far : SoFar gives setup n first feed desk before mid) → gives feed (Ok g) after_feed → n < bound
+    → (so_far : SoFar gives setup n first feed desk before mid) → gives feed (Ok g) after_feed → (is_end g.item ≡ false) ⊎ (g ≡ alone items.End) → n < bound
     → (picture_of new).painted ≡ painted_after setup g.item (picture_of desk).painted
     → GrowsPart mid (step_bytes (picture_of new).painted setup g.item g.piece (run setup so_far.given (opening setup)).desk) after
     → RanOver gives setup bound first after_feed outcomes.WriteFault before after
-cut_short gives setup n bound first feed after_feed desk new g before mid after so_far one below painted part =
+cut_short gives setup n bound first feed after_feed desk new g before mid after so_far one kind below painted part =
     let all = so_far.given ++ g ∷ [] in
     let p : (picture_of new).painted ≡ painted_from setup 0 all = painted ∙ ap (painted_after setup g.item) so_far.painted ∙ sym (painted_more setup so_far.given g 0) in
     record {
@@ -170,7 +178,7 @@ cut_short gives setup n bound first feed after_feed desk new g before mid after 
       fed = fed_more gives so_far.given g first feed after_feed so_far.fed one;
       ran = (
         refl,
-        record { front = so_far.given; last = g; is = refl; no_end = so_far.no_end },
+        ends_behind so_far.given g so_far.no_end kind,
         omega (arith, length-append so_far.given (g ∷ []), so_far.count),
         part_behind before mid after _ _ _ so_far.grown part (output_more setup so_far.given g (picture_of new).painted so_far.no_end p),
       );
@@ -253,3 +261,14 @@ end_alone guests pages item len room fits end =
 pub fits_desk : (guests pages pages' : ℕ) (item : Item) (len len' : ℕ) → guests ≡ 1 → pages ≡ pages' → len ≡ len' → FitsItem guests pages item len → FitsItem 1 pages' item len'
 fits_desk guests pages pages' item len len' one same long fits =
     subst (λ (n : ℕ). FitsItem n pages' item len') one (subst (λ (n : ℕ). FitsItem guests n item len') same (subst (λ (n : ℕ). FitsItem guests pages item n) long fits))
+
+-- an item is End, which comes without bytes, or another
+pub end_or : (guests pages : ℕ) (item : Item) (len : ℕ) (room : List ℕ) → IsInRange guests pages item len → (is_end item ≡ false) ⊎ (record { item = item; piece = take len room } ≡ alone items.End)
+end_or guests pages item len room fits = elim (cases_Bool (is_end item)) [
+  | inl end ↦ inr (end_alone guests pages item len room fits end)
+  | inr more ↦ inl more
+]
+
+-- there is one guest
+pub one_guest : (n : ℕ) → takes_guests n ≡ true → n ≡ 1
+one_guest n is = grind (arith, nat_tests)

@@ -1,5 +1,5 @@
 -- What each answer of a run says: of the items that were given, of the record, and of what was written.
-use Rattle.std.specs.Prelude.{◌≡◌, ℕ, ◌<◌, ◌≤◌, ◌^◌, List, [], ◌∷◌, ◌++◌, length, take, map, codes, string_bytes, Option, Some, None, String}
+use Rattle.std.specs.Prelude.{◌⊎◌, ◌≡◌, ℕ, ◌<◌, ◌≤◌, ◌^◌, List, [], ◌∷◌, ◌++◌, length, take, map, codes, string_bytes, Option, Some, None, String}
 use Rattle.std.specs.Global.{Global}
 use Rattle.io_ports.specs.Content.{Grows, GrowsPart}
 use Rattle.io_ports.specs.Feeds.{Answer}
@@ -15,11 +15,11 @@ use Rattle.guid_main.specs.declared.outcome.Outcome.{Outcome}
 use Rattle.guid_main.specs.declared.outcome.Outcome.TheVariants as outcomes
 use Rattle.guid_main.specs.declared.status.Status.{Status}
 use Rattle.guid_main.specs.declared.status.Status.TheVariants as statuses
-use Rattle.guid_main.specs.Config.{Fault, Rule}
+use Rattle.guid_main.specs.Config.{Fault, Rule, config_len}
 use Rattle.guid_main.specs.FeedRuns.{NoEnd, Fed}
 use Rattle.guid_main.specs.OutputGrammar.{output, output_of}
 use Rattle.guid_main.specs.Readings.{Took}
-use Rattle.guid_main.specs.RecordGrammar.{Ends, Faulty, Record, BadStart, Run, alone, record_of}
+use Rattle.guid_main.specs.RecordGrammar.{Ends, Faulty, Record, BadStart, Run, alone, items_from, record_of}
 
 -- ---- a run over a feed
 
@@ -30,11 +30,8 @@ pub record EndsLast (given : List FedItem) : Type 0 where
   pub no_end : NoEnd front
 
 -- End stands nowhere among the items but perhaps at the last place
-pub record EndsNowhereElse (given : List FedItem) : Type 0 where
-  pub front : List FedItem
-  pub last : FedItem
-  pub is : given ≡ front ++ last ∷ []
-  pub no_end : NoEnd front
+abbrev pub EndsNowhereElse : List FedItem → Type 0
+EndsNowhereElse given = NoEnd given ⊎ EndsLast given
 
 -- What an outcome says of the items that were given, of the fault that was answered then, if one was,
 -- and of what was written, where at most so many items are taken.
@@ -73,16 +70,25 @@ IsTooLong (BadStart wrong) before after = ⊥
 IsTooLong (Run setup found) before after = (most_items ≤ length found.each) × Grows before (output setup (take most_items found.each)) after
 
 -- What a status says of the bytes that the input had, of those that it has left, and of what was
--- written. Where a read or a write fails it speaks of the record that the bytes taken so far are.
+-- written, where a list of bytes is this record. Where a read or a write fails it speaks of the record
+-- that the bytes taken so far are.
+abbrev pub SaysBy : (List ℕ → Record) → List ℕ → Option (List ℕ) → Status → Option (List ℕ) → Option (List ℕ) → Type 0
+SaysBy read bytes left statuses.Done before after = IsWhole (read bytes) × Grows before (output_of (read bytes)) after
+SaysBy read bytes left statuses.Usage before after = (left ≡ Some bytes) × (after ≡ before)
+SaysBy read bytes left (statuses.BadConfig k) before after = (read bytes ≡ BadStart (Rule k)) × (after ≡ before)
+SaysBy read bytes left (statuses.BadRecord f) before after = HasFault (read bytes) f × Grows before (output_of (read bytes)) after
+SaysBy read bytes left statuses.ReadFault before after = Took bytes left (λ taken. Grows before (output_of (read taken)) after)
+SaysBy read bytes left statuses.WriteFault before after = Took bytes left (λ taken. GrowsPart before (output_of (read taken)) after)
+SaysBy read bytes left statuses.NoMemory before after = after ≡ before
+SaysBy read bytes left statuses.TooLong before after = IsTooLong (read bytes) before after
+
+-- what a status says of the record that the input's bytes are
 abbrev pub Says : List ℕ → Option (List ℕ) → Status → Option (List ℕ) → Option (List ℕ) → Type 0
-Says bytes left statuses.Done before after = IsWhole (record_of bytes) × Grows before (output_of (record_of bytes)) after
-Says bytes left statuses.Usage before after = (left ≡ Some bytes) × (after ≡ before)
-Says bytes left (statuses.BadConfig k) before after = (record_of bytes ≡ BadStart (Rule k)) × (after ≡ before)
-Says bytes left (statuses.BadRecord f) before after = HasFault (record_of bytes) f × Grows before (output_of (record_of bytes)) after
-Says bytes left statuses.ReadFault before after = Took bytes left (λ taken. Grows before (output_of (record_of taken)) after)
-Says bytes left statuses.WriteFault before after = Took bytes left (λ taken. GrowsPart before (output_of (record_of taken)) after)
-Says bytes left statuses.NoMemory before after = after ≡ before
-Says bytes left statuses.TooLong before after = IsTooLong (record_of bytes) before after
+Says bytes left status before after = SaysBy record_of bytes left status before after
+
+-- the record of these bytes where they stand behind a setup
+abbrev pub record_behind : Setup → List ℕ → Record
+record_behind setup bytes = Run setup (items_from (length setup.guests) (config_len setup) bytes)
 
 -- the one form of the words
 abbrev pub IsReplay : List (String Global) → Type 0

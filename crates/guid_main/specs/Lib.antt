@@ -2,9 +2,11 @@ pub mod Config
 pub mod RecordGrammar
 pub mod OutputGrammar
 pub mod Readings
+pub mod Parts
+pub mod ItemParts
 pub mod FeedReadings
-pub mod DeskPosts
 pub mod FeedRuns
+pub mod DeskPosts
 pub mod Answers
 pub mod Writes
 pub mod PictureView

@@ -6,11 +6,91 @@ mod desk;
 mod desk_run;
 mod item_writer;
 mod outcome;
+mod part;
 mod picture;
 mod picture_writer;
 mod post_writer;
 mod replay_feed;
+mod run;
 mod status;
 mod summary_writer;
 
-fn main(_rt: HostRuntime) {}
+use crate::run::run;
+use crate::status::Status;
+use io_ports::{RecordKind, StdSink, StdSource};
+use std::env;
+use std::io::{self, BufReader, BufWriter, Write};
+use std::process::ExitCode;
+
+fn code_of(status: &Status) -> u8 {
+    match status {
+        Status::Done => 0,
+        Status::Usage => 2,
+        Status::BadConfig { .. } => 3,
+        Status::BadRecord { .. } => 4,
+        Status::ReadFault => 5,
+        Status::WriteFault => 6,
+        Status::NoMemory => 7,
+        Status::TooLong => 9,
+    }
+}
+
+fn name_of(kind: RecordKind) -> &'static str {
+    match kind {
+        RecordKind::Magic => "magic",
+        RecordKind::Kind => "kind",
+        RecordKind::Range => "range",
+        RecordKind::Short => "short",
+    }
+}
+
+fn tell(rt: &HostRuntime, status: &Status) -> io::Result<()> {
+    match status {
+        Status::Done => Ok(()),
+        Status::Usage => eprintln!(rt; "usage: guid replay"),
+        Status::BadConfig { rule } => eprintln!(rt; "bad configuration: rule {rule}"),
+        Status::BadRecord { fault } => eprintln!(rt;
+            "bad record at {}: {}",
+            fault.offset,
+            name_of(fault.kind)
+        ),
+        Status::ReadFault => eprintln!(rt; "read fault"),
+        Status::WriteFault => eprintln!(rt; "write fault"),
+        Status::NoMemory => eprintln!(rt; "out of memory"),
+        Status::TooLong => eprintln!(rt; "input too long"),
+    }
+}
+
+// Runs over the standard streams, both through buffers.
+fn run_streams(rt: &HostRuntime, words: &Vec<String>) -> Status {
+    let alloc = rt.alloc();
+    let Ok(reader) = BufReader::new(alloc, rt.reader()) else {
+        return Status::NoMemory;
+    };
+    let Ok(mut writer) = BufWriter::new(alloc, io::writer(rt)) else {
+        return Status::NoMemory;
+    };
+    let mut input = StdSource::new(reader);
+    let status = run(alloc, words, &mut input, &mut StdSink::new(&mut writer));
+    if writer.flush().is_err() {
+        return Status::WriteFault;
+    }
+    status
+}
+
+fn words_of(rt: &HostRuntime) -> io::Result<Vec<String>> {
+    let mut words = Vec::new(rt.alloc());
+    for word in env::args(rt)?.skip(1) {
+        words.push(word)?;
+    }
+    Ok(words)
+}
+
+fn main(rt: HostRuntime) -> io::Result<ExitCode> {
+    let status = match words_of(&rt) {
+        Ok(words) => run_streams(&rt, &words),
+        Err(_) => Status::Usage,
+    };
+    tell(&rt, &status)?;
+    Ok(ExitCode::from(code_of(&status)))
+}

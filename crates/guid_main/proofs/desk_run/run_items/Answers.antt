@@ -1,13 +1,12 @@
-use Rattle.std.proofs.Common.{◌≡◌, ◌≤◌, ℕ, List, Err, length, take, refl, sym, ◌∙◌, ap, subst, arith, length-take}
-use Rattle.desk_laws.specs.Items.{FitsItem}
-use Rattle.desk_laws.specs.State.{DeskState, opening}
+use Rattle.std.proofs.Common.{◌≡◌, ◌≤◌, ℕ, Err, length, take, sym, ◌∙◌, ap, subst, arith, length-take}
+use Rattle.desk_laws.specs.State.{opening}
 use Rattle.desk_laws.specs.Steps.{run}
 use Rattle.guid_main.specs.declared.outcome.Outcome.{Outcome}
 use Rattle.guid_main.specs.Answers.{RanOver}
 use Rattle.guid_main.specs.DeskStands.{picture_of, pages_of}
 use Rattle.guid_main.specs.OutputGrammar.{picture_head}
 use Rattle.guid_main.proofs.WriterLemmas.{rose_before}
-use Rattle.guid_main.proofs.RunLemmas.{started, stepped, ended, cut_short, no_item, too_long, piece_short, end_alone, fits_desk}
+use Rattle.guid_main.proofs.RunLemmas.{started, stepped, ended, cut_short, no_item, too_long, piece_short, end_alone, fits_desk, end_or, one_guest}
 use Rattle.guid_main.proofs.DeskFacts.{width_is, height_is, pages_is}
 use Rattle.guid_main.proofs.desk_run.run_items.Goals as goal
 
@@ -49,7 +48,7 @@ pub write_item-requires-clause-range : goal.write_item-requires-clause-range
 write_item-requires-clause-range g c =
     let short : c.in-Ok.next.len ≤ length c.next.new.room = omega (arith, c.loop-n.invariant.room, c.next.auto.room, piece_short _ _ c.in-Ok.next.item c.in-Ok.next.len c.in-Ok.ensures.range.in_range) in
     let long : c.in-Ok.next.len ≡ length (take c.in-Ok.next.len c.next.new.room) = omega (arith, length-take c.in-Ok.next.len c.next.new.room) in
-    fits_desk _ _ (pages_of c.loop-n.desk) c.in-Ok.next.item c.in-Ok.next.len _ (c.loop-n.invariant.guests ∙ c.requires.fits.guests)
+    fits_desk _ _ (pages_of c.loop-n.desk) c.in-Ok.next.item c.in-Ok.next.len _ (c.loop-n.invariant.guests ∙ one_guest _ c.requires.fits.taken)
     (c.loop-n.invariant.pages ∙ sym (pages_is _ _ _ c.loop-n.invariant.so_far.stands)) long c.in-Ok.ensures.range
 
 pub write_item-requires-clause-head : goal.write_item-requires-clause-head
@@ -64,7 +63,8 @@ pub returns-in-Err-write_item-clause-ran : goal.returns-in-Err-write_item-clause
 returns-in-Err-write_item-clause-ran g c =
     let so_far = c.loop-n.invariant.so_far in
     let wrote = c.in-Err-write_item.ensures.writes c.args.setup.now (run c.args.setup.now so_far.given (opening c.args.setup.now)).desk so_far.stands in
-    cut_short g.F.Feed.gives c.args.setup.now c.loop-n._n c.args.bounds.items _ _ _ _ c.write_item.new.desk _ _ _ _ so_far c.in-Ok.ensures.gives (omega arith) wrote.painted wrote.wrote
+    cut_short g.F.Feed.gives c.args.setup.now c.loop-n._n c.args.bounds.items _ _ _ _ c.write_item.new.desk _ _ _ _ so_far c.in-Ok.ensures.gives
+    (end_or _ _ c.in-Ok.next.item c.in-Ok.next.len c.next.new.room c.in-Ok.ensures.range.in_range) (omega arith) wrote.painted wrote.wrote
 
 pub returns-in-Err-write_item-clause-keeps : goal.returns-in-Err-write_item-clause-keeps
 returns-in-Err-write_item-clause-keeps g c =

@@ -1,5 +1,5 @@
 use Rattle.std.proofs.Common.{sym, ◌∙◌}
-use Rattle.guid_main.proofs.ItemLemmas.{item_failed, item_going, item_snap, item_ended, snap_is, end_is, wrote_of}
+use Rattle.guid_main.proofs.ItemWriteLemmas.{item_failed, item_going, item_snap, item_ended, snap_is, end_is, wrote_of}
 use Rattle.guid_main.proofs.item_writer.write_item.Goals as goal
 
 pub returns-in-Ok-Going-clause-writes : goal.returns-in-Ok-Going-clause-writes

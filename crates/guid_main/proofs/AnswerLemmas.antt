@@ -1,0 +1,201 @@
+-- What each status says, from what the feed gave and what was written.
+use Rattle.std.proofs.Common.{◌≡◌, ℕ, ◌+◌, ◌^◌, ◌<◌, ◌≤◌, List, [], ◌∷◌, ◌++◌, length, take, Option, Some, None, Ok, Err, inl, inr, refl, sym, ◌∙◌, ap, subst, arith, length-append}
+use Rattle.std.proofs.lemmas.List.{append-nil, take_at}
+use Rattle.desk_laws.specs.declared.setup.Setup.{Setup}
+use Rattle.desk_laws.specs.declared.item.Item.TheVariants as items
+use Rattle.desk_laws.specs.Items.{FedItem}
+use Rattle.io_ports.specs.Content.{Grows, GrowsPart}
+use Rattle.io_ports.specs.Counts.{Rose}
+use Rattle.io_ports.specs.declared.feed.FeedFault.{FeedFault}
+use Rattle.io_ports.specs.declared.feed.FeedFault.TheVariants as feeds
+use Rattle.io_ports.specs.declared.feed.RecordFault.{RecordFault}
+use Rattle.io_ports.specs.declared.feed.RecordKind.TheVariants as kinds
+use Rattle.io_ports.proofs.GrowLemmas.{grows_none}
+use Rattle.guid_main.specs.declared.config.ConfigRead.{ConfigRead}
+use Rattle.guid_main.specs.declared.config.ConfigRead.TheVariants as reads
+use Rattle.guid_main.specs.declared.outcome.Outcome.{Outcome}
+use Rattle.guid_main.specs.declared.outcome.Outcome.TheVariants as outcomes
+use Rattle.guid_main.specs.declared.replay_feed.FeedState.TheVariants as states
+use Rattle.guid_main.specs.declared.replay_feed.ReplayFeed.{ReplayFeed}
+use Rattle.guid_main.specs.declared.status.Status.{Status}
+use Rattle.guid_main.specs.declared.status.Status.TheVariants as statuses
+use Rattle.guid_main.specs.Answers.{EndsLast, EndsNowhereElse, Ran, RanOver, SaysBy, Says, most_items, record_behind, status_of, after_config}
+use Rattle.guid_main.specs.Config.{Fault, fault, config_of, config_len}
+use Rattle.guid_main.specs.FeedRuns.{FeedGives, Fed, NoEnd}
+use Rattle.guid_main.specs.OutputGrammar.{output, output_of}
+use Rattle.guid_main.specs.Readings.{Took, Spells, SpellsNothing, Reads}
+use Rattle.guid_main.specs.RecordGrammar.{Items, Ending, Ends, Faulty, Record, Run, BadStart, alone, with_front, items_from, started, record_of, whole}
+use Rattle.guid_main.proofs.FeedRuns.{fed_going, fed_end, fed_fault, fed_failed}
+
+-- where what was taken has one fact, it has another
+took_so : (bytes : List ℕ) (left : Option (List ℕ)) (one two : List ℕ → Type 0) → ((taken : List ℕ) → one taken → two taken) → Took bytes left one → Took bytes left two
+took_so bytes left one two so took = record { taken = took.taken; rest = took.rest; split = took.split; is_left = took.is_left; holds = so took.taken took.holds }
+
+-- nothing stands behind the last byte
+from_none : (guests at : ℕ) → items_from guests at [] ≡ record { each = []; ending = Faulty (fault at kinds.Short) }
+unfolding items_from
+from_none guests at = refl
+
+-- the items, whatever they end in
+whole_faulty : (given : List FedItem) (f : RecordFault) → whole (record { each = given; ending = Faulty f }) ≡ given
+whole_faulty given f = append-nil given
+
+same_output : (setup : Setup) (found known : Items) (given : List FedItem) → found ≡ known → whole known ≡ given → output setup given ≡ output_of (Run setup found)
+same_output setup found known given is all = ap (output setup) (sym all) ∙ ap (λ (f : Items). output setup (whole f)) (sym is)
+
+grows_so : (before after : Option (List ℕ)) (xs ys : List ℕ) → xs ≡ ys → Grows before xs after → Grows before ys after
+grows_so before after xs ys is grown = subst (λ (l : List ℕ). Grows before l after) is grown
+
+part_so : (before after : Option (List ℕ)) (xs ys : List ℕ) → xs ≡ ys → GrowsPart before xs after → GrowsPart before ys after
+part_so before after xs ys is part = subst (λ (l : List ℕ). GrowsPart before l after) is part
+
+-- ---- a run over a feed that reads a record
+
+done_says : {S : Type 0} (left : S → Option (List ℕ)) (faults : S → ℕ) (keeps : S → S → Type 0) (setup : Setup) (a b : ReplayFeed S) (bytes : List ℕ) (given : List FedItem) (before after : Option (List ℕ))
+    → a.state ≡ states.Going → a.guests ≡ length setup.guests → a.at ≡ config_len setup → left a.source ≡ Some bytes
+    → Fed (FeedGives left faults keeps) a given None b → EndsLast given → length given ≤ most_items → Grows before (output setup given) after
+    → SaysBy (record_behind setup) bytes (left b.source) statuses.Done before after
+done_says left faults keeps setup a b bytes given before after going guests at told fed ends short grown =
+    let took = fed_end left faults keeps a b ends.front bytes going told ends.no_end (subst (λ (l : List FedItem). Fed (FeedGives left faults keeps) a l None b) ends.is fed) in
+    let found : items_from (length setup.guests) (config_len setup) bytes ≡ record { each = ends.front; ending = Ends } =
+    (λ i. items_from (sym guests i) (sym at i) bytes) ∙ ap (items_from a.guests a.at) took.split ∙ took.holds took.rest in (
+      (
+        ap (λ (f : Items). f.ending) found,
+        omega (arith, ap (λ (f : Items). length f.each) found, ap length ends.is, length-append ends.front (alone items.End ∷ []), short),
+      ),
+      grows_so before after _ _ (same_output setup _ _ given found (sym ends.is)) grown,
+    )
+
+fault_says : {S : Type 0} (left : S → Option (List ℕ)) (faults : S → ℕ) (keeps : S → S → Type 0) (setup : Setup) (a b : ReplayFeed S) (bytes : List ℕ) (given : List FedItem) (f : RecordFault) (before after : Option (List ℕ))
+    → a.state ≡ states.Going → a.guests ≡ length setup.guests → a.at ≡ config_len setup → left a.source ≡ Some bytes
+    → Fed (FeedGives left faults keeps) a given (Some (feeds.Bad f)) b → NoEnd given → length given < most_items → Grows before (output setup given) after
+    → SaysBy (record_behind setup) bytes (left b.source) (statuses.BadRecord f) before after
+fault_says left faults keeps setup a b bytes given f before after going guests at told fed none short grown =
+    let found : items_from (length setup.guests) (config_len setup) bytes ≡ record { each = given; ending = Faulty f } =
+    (λ i. items_from (sym guests i) (sym at i) bytes) ∙ fed_fault left faults keeps a b given f bytes going told none fed in (
+      (ap (λ (x : Items). x.ending) found, omega (arith, ap (λ (x : Items). length x.each) found, short)),
+      grows_so before after _ _ (same_output setup _ _ given found (whole_faulty given f)) grown,
+    )
+
+read_says : {S : Type 0} (left : S → Option (List ℕ)) (faults : S → ℕ) (keeps : S → S → Type 0) (setup : Setup) (a b : ReplayFeed S) (bytes : List ℕ) (given : List FedItem) (before after : Option (List ℕ))
+    → a.state ≡ states.Going → a.guests ≡ length setup.guests → a.at ≡ config_len setup → left a.source ≡ Some bytes
+    → Fed (FeedGives left faults keeps) a given (Some feeds.Failed) b → NoEnd given → Grows before (output setup given) after
+    → SaysBy (record_behind setup) bytes (left b.source) statuses.ReadFault before after
+read_says left faults keeps setup a b bytes given before after going guests at told fed none grown =
+    let took = fed_failed left faults keeps a b given bytes going told none fed in
+    took_so bytes (left b.source) _ _ (λ taken is.
+    let found : items_from (length setup.guests) (config_len setup) taken ≡ record { each = given; ending = Faulty (fault took.0 kinds.Short) } =
+    (λ i. items_from (sym guests i) (sym at i) taken) ∙ is in
+    grows_so before after _ _ (same_output setup _ _ given found (whole_faulty given (fault took.0 kinds.Short))) grown) took.1
+
+write_says : {S : Type 0} (left : S → Option (List ℕ)) (faults : S → ℕ) (keeps : S → S → Type 0) (setup : Setup) (a b : ReplayFeed S) (bytes : List ℕ) (given : List FedItem) (before after : Option (List ℕ))
+    → a.state ≡ states.Going → a.guests ≡ length setup.guests → a.at ≡ config_len setup → left a.source ≡ Some bytes
+    → Fed (FeedGives left faults keeps) a given None b → EndsNowhereElse given → GrowsPart before (output setup given) after
+    → SaysBy (record_behind setup) bytes (left b.source) statuses.WriteFault before after
+write_says left faults keeps setup a b bytes given before after going guests at told fed (inl none) part =
+    let gone = fed_going left faults keeps a b given bytes going told none fed in
+    took_so bytes (left b.source) _ _ (λ taken is.
+    let found : items_from (length setup.guests) (config_len setup) taken ≡ record { each = given; ending = Faulty (fault b.at kinds.Short) } =
+    (λ i. items_from (sym guests i) (sym at i) taken) ∙ ap (items_from a.guests a.at) (sym (append-nil taken)) ∙ is []
+    ∙ ap (with_front given) (from_none a.guests b.at) ∙ ap (λ (l : List FedItem). record { each = l; ending = Faulty (fault b.at kinds.Short) }) (append-nil given) in
+    part_so before after _ _ (same_output setup _ _ given found (whole_faulty given (fault b.at kinds.Short))) part) gone.took
+write_says left faults keeps setup a b bytes given before after going guests at told fed (inr ends) part =
+    let took = fed_end left faults keeps a b ends.front bytes going told ends.no_end (subst (λ (l : List FedItem). Fed (FeedGives left faults keeps) a l None b) ends.is fed) in
+    took_so bytes (left b.source) _ _ (λ taken is.
+    let found : items_from (length setup.guests) (config_len setup) taken ≡ record { each = ends.front; ending = Ends } =
+    (λ i. items_from (sym guests i) (sym at i) taken) ∙ ap (items_from a.guests a.at) (sym (append-nil taken)) ∙ is [] in
+    part_so before after _ _ (same_output setup _ _ given found (sym ends.is)) part) took
+
+long_says : {S : Type 0} (left : S → Option (List ℕ)) (faults : S → ℕ) (keeps : S → S → Type 0) (setup : Setup) (a b : ReplayFeed S) (bytes : List ℕ) (given : List FedItem) (before after : Option (List ℕ))
+    → a.state ≡ states.Going → a.guests ≡ length setup.guests → a.at ≡ config_len setup → left a.source ≡ Some bytes
+    → Fed (FeedGives left faults keeps) a given None b → NoEnd given → length given ≡ most_items → Grows before (output setup given) after
+    → SaysBy (record_behind setup) bytes (left b.source) statuses.TooLong before after
+long_says left faults keeps setup a b bytes given before after going guests at told fed none long grown =
+    let gone = fed_going left faults keeps a b given bytes going told none fed in
+    let behind = items_from a.guests b.at gone.took.rest in
+    let found : items_from (length setup.guests) (config_len setup) bytes ≡ with_front given behind =
+    (λ i. items_from (sym guests i) (sym at i) bytes) ∙ ap (items_from a.guests a.at) gone.took.split ∙ gone.took.holds gone.took.rest in
+    let each : (items_from (length setup.guests) (config_len setup) bytes).each ≡ given ++ behind.each = ap (λ (f : Items). f.each) found in (
+      omega (arith, ap length each, length-append given behind.each, long),
+      grows_so before after _ _ (ap (output setup) (sym (ap (take most_items) each ∙ take_at given behind.each most_items long))) grown,
+    )
+
+-- what an outcome says of the bytes behind the setup
+pub outcome_says : {S : Type 0} (left : S → Option (List ℕ)) (faults : S → ℕ) (keeps : S → S → Type 0) (setup : Setup) (a b : ReplayFeed S) (bytes : List ℕ) (given : List FedItem) (last : Option FeedFault) (outcome : Outcome) (before after : Option (List ℕ))
+    → a.state ≡ states.Going → a.guests ≡ length setup.guests → a.at ≡ config_len setup → left a.source ≡ Some bytes
+    → Fed (FeedGives left faults keeps) a given last b → Ran setup most_items given last outcome before after
+    → SaysBy (record_behind setup) bytes (left b.source) (status_of outcome) before after
+outcome_says left faults keeps setup a b bytes given last outcomes.Done before after going guests at told fed ran =
+    done_says left faults keeps setup a b bytes given before after going guests at told (subst (λ (l : Option FeedFault). Fed (FeedGives left faults keeps) a given l b) ran.0 fed) ran.1 ran.2 ran.3
+outcome_says left faults keeps setup a b bytes given last (outcomes.BadRecord f) before after going guests at told fed ran =
+    fault_says left faults keeps setup a b bytes given f before after going guests at told (subst (λ (l : Option FeedFault). Fed (FeedGives left faults keeps) a given l b) ran.0 fed) ran.1 ran.2 ran.3
+outcome_says left faults keeps setup a b bytes given last outcomes.ReadFault before after going guests at told fed ran =
+    read_says left faults keeps setup a b bytes given before after going guests at told (subst (λ (l : Option FeedFault). Fed (FeedGives left faults keeps) a given l b) ran.0 fed) ran.1 ran.3
+outcome_says left faults keeps setup a b bytes given last outcomes.WriteFault before after going guests at told fed ran =
+    write_says left faults keeps setup a b bytes given before after going guests at told (subst (λ (l : Option FeedFault). Fed (FeedGives left faults keeps) a given l b) ran.0 fed) ran.1 ran.3
+outcome_says left faults keeps setup a b bytes given last outcomes.NoMemory before after going guests at told fed ran = ran.2
+outcome_says left faults keeps setup a b bytes given last outcomes.TooLong before after going guests at told fed ran =
+    long_says left faults keeps setup a b bytes given before after going guests at told (subst (λ (l : Option FeedFault). Fed (FeedGives left faults keeps) a given l b) ran.0 fed) ran.1 ran.2 ran.3
+
+-- ---- the whole record
+
+-- the record behind a setup that was taken
+pub behind_setup : (setup : Setup) (taken tail : List ℕ) → Spells config_of setup taken → record_of (taken ++ tail) ≡ record_behind setup tail
+behind_setup setup taken tail spells = ap started (spells tail)
+
+took_behind : (setup : Setup) (taken rest : List ℕ) (left : Option (List ℕ)) (bytes : List ℕ) (fact : Record → Type 0) → bytes ≡ taken ++ rest → Spells config_of setup taken
+    → Took rest left (λ more. fact (record_behind setup more)) → Took bytes left (λ all. fact (record_of all))
+took_behind setup taken rest left bytes fact split spells took = record {
+  taken = taken ++ took.taken;
+  rest = took.rest;
+  split = split ∙ ap (λ (l : List ℕ). taken ++ l) took.split ∙ sym (Rattle.std.proofs.Common.append_assoc taken took.taken took.rest);
+  is_left = took.is_left;
+  holds = subst fact (sym (behind_setup setup taken took.taken spells)) took.holds;
+}
+
+pub says_behind : (setup : Setup) (taken rest bytes : List ℕ) (left : Option (List ℕ)) (status : Status) (before after : Option (List ℕ)) → bytes ≡ taken ++ rest → Spells config_of setup taken
+    → (status ≡ statuses.Usage → ⊥) → SaysBy (record_behind setup) rest left status before after → Says bytes left status before after
+says_behind setup taken rest bytes left statuses.Done before after split spells used says =
+    let is : record_of bytes ≡ record_behind setup rest = ap record_of split ∙ behind_setup setup taken rest spells in
+    subst (λ (r : Record). SaysBy (λ bs. r) bytes left statuses.Done before after) (sym is) says
+says_behind setup taken rest bytes left statuses.Usage before after split spells used says = absurd (used refl)
+says_behind setup taken rest bytes left (statuses.BadConfig k) before after split spells used says =
+    let is : record_of bytes ≡ record_behind setup rest = ap record_of split ∙ behind_setup setup taken rest spells in
+    subst (λ (r : Record). SaysBy (λ bs. r) bytes left (statuses.BadConfig k) before after) (sym is) says
+says_behind setup taken rest bytes left (statuses.BadRecord f) before after split spells used says =
+    let is : record_of bytes ≡ record_behind setup rest = ap record_of split ∙ behind_setup setup taken rest spells in
+    subst (λ (r : Record). SaysBy (λ bs. r) bytes left (statuses.BadRecord f) before after) (sym is) says
+says_behind setup taken rest bytes left statuses.ReadFault before after split spells used says =
+    took_behind setup taken rest left bytes (λ (r : Record). Grows before (output_of r) after) split spells says
+says_behind setup taken rest bytes left statuses.WriteFault before after split spells used says =
+    took_behind setup taken rest left bytes (λ (r : Record). GrowsPart before (output_of r) after) split spells says
+says_behind setup taken rest bytes left statuses.NoMemory before after split spells used says = says
+says_behind setup taken rest bytes left statuses.TooLong before after split spells used says =
+    let is : record_of bytes ≡ record_behind setup rest = ap record_of split ∙ behind_setup setup taken rest spells in
+    subst (λ (r : Record). SaysBy (λ bs. r) bytes left statuses.TooLong before after) (sym is) says
+
+nothing_said : (taken : List ℕ) (before : Option (List ℕ)) → SpellsNothing config_of taken → Grows before (output_of (record_of taken)) before
+nothing_said taken before none =
+    grows_so before before [] (output_of (record_of taken)) (sym (ap (λ r. output_of (started r)) none.1)) (grows_none before before refl)
+
+-- no setup was read
+pub no_setup : (e : ConfigRead) (bytes : List ℕ) (left before : Option (List ℕ)) → Reads {X = Setup} config_of (Err e) bytes left → Says bytes left (after_config e) before before
+no_setup reads.Failed bytes left before given = took_so bytes left _ _ (λ taken none. nothing_said taken before none) given
+no_setup (reads.Bad f) bytes left before given =
+    let is : record_of bytes ≡ BadStart (Fault f) = ap started given in
+    subst (λ (r : Record). SaysBy (λ bs. r) bytes left (statuses.BadRecord f) before before) (sym is) (refl, grows_none before before refl)
+no_setup (reads.Rule k) bytes left before given = (ap started given, refl)
+no_setup reads.NoMemory bytes left before given = refl
+
+-- the same of an input that is seen again
+pub says_again : {X : Type 0} (left : X → Option (List ℕ)) (setup : Setup) (bytes : List ℕ) (status status' : Status) (before after : Option (List ℕ)) (x y : X) → x ≡ y → status' ≡ status
+    → SaysBy (record_behind setup) bytes (left y) status before after → SaysBy (record_behind setup) bytes (left x) status' before after
+says_again {X} left setup bytes status status' before after x y same is says =
+    subst (λ (s : Status). SaysBy (record_behind setup) bytes (left x) s before after) (sym is)
+    (subst (λ (v : X). SaysBy (record_behind setup) bytes (left v) status before after) (sym same) says)
+
+pub later_again : {X : Type 0} (faults : X → ℕ) (a x y : X) → x ≡ y → faults a ≤ faults y → faults a ≤ faults x
+later_again {X} faults a x y same later = subst (λ (v : X). faults a ≤ faults v) (sym same) later
+
+pub rose_again : {X : Type 0} (faults : X → ℕ) (a x y : X) → x ≡ y → Rose (faults a) (faults y) → Rose (faults a) (faults x)
+rose_again {X} faults a x y same rose = subst (λ (v : X). Rose (faults a) (faults v)) (sym same) rose

@@ -1,0 +1,41 @@
+use Rattle.std.proofs.Common.{◌≡◌, ◌∙◌, length, slice_index, refl, arith}
+use Rattle.guid_main.specs.RecordGrammar.{item_at, bytes_at, alone}
+use Rattle.io_ports.specs.declared.feed.RecordKind.TheVariants as kinds
+use Rattle.desk_laws.specs.declared.item.Item.TheVariants as items
+use Rattle.guid_main.proofs.ItemLemmas.{Behind, part_unfound, part_behind, finds_on, whole_found, fault_behind, behind_kind, kind_short, kind_behind, kind_bytes, kind_snap, kind_end, kind_other}
+use Rattle.guid_main.proofs.replay_feed.read_item.Goals as goal
+
+pub returns-in-Err-clause-finds : goal.returns-in-Err-clause-finds
+returns-in-Err-clause-finds g c = λ bytes told.
+    let size : length c.fill_whole.new.room ≡ 1 = omega arith in
+    part_unfound (item_at c.args.guests) 0 c.args.at c.in-Err.part c.no_item.result c.fill_whole.new.room bytes _ c.no_item.ensures
+    (λ xs short. kind_short c.args.guests xs (omega (arith, short, size))) (c.in-Err.ensures.fills bytes told)
+
+pub returns-in-2-clause-finds : goal.returns-in-2-clause-finds
+returns-in-2-clause-finds g c = λ bytes told.
+    let kind = c.fill_whole.new.room in
+    let here = kind_behind c.args.guests kind (omega arith) in
+    let then_bytes : Behind (item_at c.args.guests) 0 (bytes_at c.args.guests) 1 kind = record { size = here.size; goes = λ tail. here.goes tail ∙ kind_bytes c.args.guests (slice_index kind 0) c.in-2.is tail } in
+    let first = part_behind (item_at c.args.guests) 0 (bytes_at c.args.guests) 1 kind bytes _ then_bytes (c.in-Ok.ensures.fills bytes told) in
+    finds_on (item_at c.args.guests) (bytes_at c.args.guests) 0 1 c.args.at _ bytes _ _ first (c.read_bytes.ensures.finds first.rest first.is_left)
+
+pub returns-in-9-clause-finds : goal.returns-in-9-clause-finds
+returns-in-9-clause-finds g c = λ bytes told.
+    let kind = c.fill_whole.new.room in
+    let here = kind_behind c.args.guests kind (omega arith) in
+    whole_found (item_at c.args.guests) 0 1 c.args.at (alone items.Snap) kind bytes _ (omega arith) refl
+    (λ tail. here.goes tail ∙ kind_snap c.args.guests (slice_index kind 0) c.in-9.is tail) (c.in-Ok.ensures.fills bytes told)
+
+pub returns-in-10-clause-finds : goal.returns-in-10-clause-finds
+returns-in-10-clause-finds g c = λ bytes told.
+    let kind = c.fill_whole.new.room in
+    let here = kind_behind c.args.guests kind (omega arith) in
+    whole_found (item_at c.args.guests) 0 1 c.args.at (alone items.End) kind bytes _ (omega arith) refl
+    (λ tail. here.goes tail ∙ kind_end c.args.guests (slice_index kind 0) c.in-10.is tail) (c.in-Ok.ensures.fills bytes told)
+
+pub returns-in_default-clause-finds : goal.returns-in_default-clause-finds
+returns-in_default-clause-finds g c = λ bytes told.
+    let kind = c.fill_whole.new.room in
+    let first = part_behind (item_at c.args.guests) 0 (behind_kind c.args.guests (slice_index kind 0)) 1 kind bytes _ (kind_behind c.args.guests kind (omega arith)) (c.in-Ok.ensures.fills bytes told) in
+    fault_behind (item_at c.args.guests) (behind_kind c.args.guests (slice_index kind 0)) 0 1 c.args.at kinds.Kind c.bad.result bytes _ c.bad.ensures
+    (kind_other c.args.guests (slice_index kind 0) (λ two. omega arith) (λ nine. omega arith) (λ ten. omega arith)) first

@@ -1,0 +1,112 @@
+// The program's top call.
+ghost use Rattle.std.specs.Prelude.{◌≤◌, ◌≡◌, ◌↔◌, IsTrue, None};
+ghost use Rattle.io_ports.specs.Content.{Told};
+ghost use Rattle.io_ports.specs.Counts.{Rose};
+ghost use Rattle.desk_laws.specs.Rules.{first_broken, Fits};
+ghost use Rattle.guid_main.specs.Answers.{Says, SaysBy, IsReplay, after_config, status_of, record_behind};
+
+use crate::config::{ConfigRead, config_len, read_config};
+use crate::desk_run::desk_run;
+use crate::outcome::{Bounds, Outcome};
+use crate::replay_feed::ReplayFeed;
+use crate::status::Status;
+use desk_laws::Setup;
+use io_ports::{Sink, Source};
+use std::alloc::Global;
+
+// How many items a run takes at most.
+const MOST_ITEMS: u64 = 1 << 40;
+
+// Whether the words are the one form that there is.
+fn is_replay(words: &Vec<String>) -> bool
+    ensures { IsTrue result ↔ IsReplay words.now.items }
+{
+    words.len() == 1 && words[0].as_str() == "replay"
+}
+
+// The status where no setup was read.
+fn after_config(e: ConfigRead) -> Status
+    ensures is { result ≡ after_config e }
+    ensures read { result ≡ Status.ReadFault → e ≡ ConfigRead.Failed }
+    ensures write { result ≡ Status.WriteFault → ⊥ }
+    ensures words { result ≡ Status.Usage → ⊥ }
+{
+    match e {
+        ConfigRead::Failed => Status::ReadFault,
+        ConfigRead::Bad(fault) => Status::BadRecord { fault },
+        ConfigRead::Rule(rule) => Status::BadConfig { rule },
+        ConfigRead::NoMemory => Status::NoMemory,
+    }
+}
+
+// The status after a run.
+fn status_of(outcome: Outcome) -> Status
+    ensures is { result ≡ status_of outcome }
+    ensures read { result ≡ Status.ReadFault → outcome ≡ Outcome.ReadFault }
+    ensures write { result ≡ Status.WriteFault → outcome ≡ Outcome.WriteFault }
+    ensures words { result ≡ Status.Usage → ⊥ }
+{
+    match outcome {
+        Outcome::Done => Status::Done,
+        Outcome::BadRecord(fault) => Status::BadRecord { fault },
+        Outcome::ReadFault => Status::ReadFault,
+        Outcome::WriteFault => Status::WriteFault,
+        Outcome::NoMemory => Status::NoMemory,
+        Outcome::TooLong => Status::TooLong,
+    }
+}
+
+// Replays the items behind this setup.
+fn replay<S: Source, K: Sink>(
+    alloc: Global,
+    setup: &Setup,
+    input: &mut S,
+    out: &mut K,
+) -> Status
+    requires sound { first_broken setup.now ≡ None }
+    requires fits { Fits setup.now }
+    ensures says { Told (S.left input.old) (λ bytes. SaysBy (record_behind setup.now) bytes (S.left input.new) result (K.written out.old) (K.written out.new)) }
+    ensures read_later { S.faults input.old ≤ S.faults input.new }
+    ensures read { result ≡ Status.ReadFault → Rose (S.faults input.old) (S.faults input.new) }
+    ensures write_later { K.faults out.old ≤ K.faults out.new }
+    ensures write { result ≡ Status.WriteFault → Rose (K.faults out.old) (K.faults out.new) }
+    ensures words { result ≡ Status.Usage → ⊥ }
+{
+    let start = config_len(setup);
+    let mut feed = match ReplayFeed::new(alloc, input, setup, start) {
+        Ok(feed) => feed,
+        Err(_) => return Status::NoMemory,
+    };
+    let bounds = Bounds { items: MOST_ITEMS };
+    let outcome = desk_run(alloc, setup, &mut feed, out, bounds);
+    status_of(outcome)
+}
+
+/// Does all that the program does, for the words after its name: with the one word `replay` it reads
+/// a record from the input and writes what the desktop posts to the output.
+///
+/// What each status says of the record and of the output stands with `Status`; the record and output
+/// formats are this project's own, and the messages in them are those of the Qubes GUI protocol.
+pub fn run<S: Source, K: Sink>(
+    alloc: Global,
+    words: &Vec<String>,
+    input: &mut S,
+    out: &mut K,
+) -> Status
+    ensures says { Told (S.left input.old) (λ bytes. Says bytes (S.left input.new) result (K.written out.old) (K.written out.new)) }
+    ensures usage { result ≡ Status.Usage → IsReplay words.now.items → ⊥ }
+    ensures words { (IsReplay words.now.items → ⊥) → result ≡ Status.Usage }
+    ensures read_later { S.faults input.old ≤ S.faults input.new }
+    ensures read { result ≡ Status.ReadFault → Rose (S.faults input.old) (S.faults input.new) }
+    ensures write_later { K.faults out.old ≤ K.faults out.new }
+    ensures write { result ≡ Status.WriteFault → Rose (K.faults out.old) (K.faults out.new) }
+{
+    if !is_replay(words) {
+        return Status::Usage;
+    }
+    let setup = match read_config(alloc, input) {
+        Ok(setup) => setup,
+        Err(e) => return after_config(e),
+    };
+    replay(alloc, &setup, input, out)
+}
