@@ -34,17 +34,32 @@ fault_by Dump header = if fits_rule Dump header.len then None else Some (told_ca
 abbrev pub head_fault : Header → Option Cause
 head_fault header = if takes_type header.kind then fault_by (rule_of header.kind) header else Some (BadType header.kind 0)
 
+-- the fault of a header alone, once all messages are taken: its type is unknown, its length breaks the
+-- rule of its type, or it announces clipboard data that is too long even to be skipped
+abbrev pub header_fault : Header → Option Cause
+header_fault header = by_rule (rule_of header.kind)
+  where
+    by_rule : LengthRule → Option Cause
+    by_rule Unknown = Some (BadType header.kind 0)
+    by_rule (Exactly n) = if fits_rule (Exactly n) header.len then None else Some (BadLength header.len 0)
+    by_rule Clip = if nat_lt 256000 header.len then Some (ClipTooLong header.len 0) else None
+    by_rule Dump = if fits_rule Dump header.len then None else Some (BadLength header.len 0)
+
 -- the unit of a header and the bytes behind it
 abbrev pub front_of : Option Cause → Header → List ℕ → Front
 front_of (Some cause) header behind = Fault cause
 front_of None header behind =
     if nat_lt (length behind) header.len then Wait else Takes (Whole header (take header.len behind)) (drop header.len behind)
 
--- the first unit: the version word, and then messages
+-- the first unit, where headers have these faults: the version word, and then messages
+abbrev pub front_by : (Header → Option Cause) → Bool → List ℕ → Front
+front_by fault_of false bytes = if nat_lt (length bytes) 4 then Wait else Takes (Word (word_at 0 bytes)) (drop 4 bytes)
+front_by fault_of true bytes =
+    if nat_lt (length bytes) 12 then Wait else front_of (fault_of (header_at bytes)) (header_at bytes) (drop 12 bytes)
+
+-- the first unit
 abbrev pub front : Bool → List ℕ → Front
-front false bytes = if nat_lt (length bytes) 4 then Wait else Takes (Word (word_at 0 bytes)) (drop 4 bytes)
-front true bytes =
-    if nat_lt (length bytes) 12 then Wait else front_of (head_fault (header_at bytes)) (header_at bytes) (drop 12 bytes)
+front greeted bytes = front_by head_fault greeted bytes
 
 pub record Cut : Type 0 where
   pub units : List StreamUnit
