@@ -22,12 +22,15 @@ raises id deliveries scene = record { layers = raised id scene.layers; seat = sc
 
 -- ---- the pointer
 
+-- whether the desktop has the pixel
 abbrev pub on_desktop : Setup → Point → Bool
 on_desktop setup p = has (record { x = pos 0; y = pos 0; w = setup.width; h = setup.height }) p
 
+-- the pointer at this pixel
 abbrev pub with_pointer : Point → Seat → Seat
 with_pointer p seat = record seat { pointer = Some p }
 
+-- a Motion for the row, if there is one
 abbrev pub motion : Option RowId → ℕ → Scene → List Delivery
 motion None state scene = []
 motion (Some id) state scene = Grants id (g.Motion id.window (pointer_in id scene).x (pointer_in id scene).y state) ∷ []
@@ -36,6 +39,7 @@ motion (Some id) state scene = Grants id (g.Motion id.window (pointer_in id scen
 abbrev pub moves : Sizes → ℕ → Option RowId → Scene → List Delivery
 moves sizes state before scene = if same_id before (hover_now sizes scene) then motion before state scene else []
 
+-- the pointer moves; outside the desktop nothing happens
 abbrev pub move : Setup → Point → ℕ → Scene → InputOutcome
 move setup p state scene =
     if on_desktop setup p
@@ -43,19 +47,24 @@ move setup p state scene =
     (moves (sizes_of setup) state (hover_now (sizes_of setup) scene) (record scene { seat = with_pointer p scene.seat }))
     else ignored scene
 
+-- a button for a row
 abbrev pub button : RowId → Bool → ℕ → ℕ → Scene → List Delivery
 button id down code state scene =
     Grants id (g.Button id.window down (pointer_in id scene).x (pointer_in id scene).y state code) ∷ []
 
+-- whether a code is held
 abbrev pub is_among : ℕ → List ℕ → Bool
 is_among code codes = list_any (λ c. c == code) codes
 
+-- the codes with one more
 abbrev pub held : ℕ → List ℕ → List ℕ
 held code codes = if is_among code codes then codes else codes ++ code ∷ []
 
+-- the codes without one
 abbrev pub released : ℕ → List ℕ → List ℕ
 released code codes = filter (λ c. not (c == code)) codes
 
+-- the row is grabbed while these buttons are held
 abbrev pub grabbing : RowId → List ℕ → Seat → Seat
 grabbing id buttons seat = record seat { grab = Some (record { row = id; buttons = buttons }) }
 
@@ -63,6 +72,7 @@ grabbing id buttons seat = record seat { grab = Some (record { row = id; buttons
 abbrev pub layers_pressed : Row → Layers → Layers
 layers_pressed row layers = if row.over then layers else raised (id_of row) layers
 
+-- a press on a row
 abbrev pub press_row : Row → Point → ℕ → ℕ → Scene → InputOutcome
 press_row row p code state scene = record {
   layers = layers_pressed row scene.layers;
@@ -70,10 +80,12 @@ press_row row p code state scene = record {
   deliveries = if has row.place p then button (id_of row) true code state scene else [];
 }
 
+-- a press on the owner of the pixel
 abbrev pub press_owner : Option Row → Point → ℕ → ℕ → Scene → InputOutcome
 press_owner None p code state scene = ignored scene
 press_owner (Some row) p code state scene = press_row row p code state scene
 
+-- a press: without a pointer nothing happens, and while a grab is held it goes to the grabbed row
 abbrev pub press_by : Setup → Option Point → Option Grab → ℕ → ℕ → Scene → InputOutcome
 press_by setup None grab code state scene = ignored scene
 press_by setup (Some p) (Some grab) code state scene =
@@ -81,10 +93,12 @@ press_by setup (Some p) (Some grab) code state scene =
 press_by setup (Some p) None code state scene =
     press_owner (topmost setup.border scene.rows scene.layers p) p code state scene
 
+-- the grab with the buttons that are still held
 abbrev pub grab_left : RowId → List ℕ → Option Grab
 grab_left id [] = None
 grab_left id (b ∷ buttons) = Some (record { row = id; buttons = b ∷ buttons })
 
+-- a release, which matters where a grab holds the button
 abbrev pub release_by : Option Grab → ℕ → ℕ → Scene → InputOutcome
 release_by None code state scene = ignored scene
 release_by (Some grab) code state scene =
@@ -92,6 +106,7 @@ release_by (Some grab) code state scene =
     then with_deliveries scene (record scene.seat { grab = grab_left grab.row (released code grab.buttons) }) (button grab.row false code state scene)
     else ignored scene
 
+-- a button was pressed or let go
 abbrev pub press : Setup → Bool → ℕ → ℕ → Scene → InputOutcome
 press setup true code state scene = press_by setup scene.seat.pointer scene.seat.grab code state scene
 press setup false code state scene = release_by scene.seat.grab code state scene
@@ -102,9 +117,11 @@ press setup false code state scene = release_by scene.seat.grab code state scene
 abbrev pub is_chord : ℕ → Bool
 is_chord state = state % 2 == 1 && state / 4 % 2 == 1
 
+-- the noted keys changed
 abbrev pub with_pressed_keys : (List ℕ → List ℕ) → Seat → Seat
 with_pressed_keys f seat = record seat { pressed_keys = f seat.pressed_keys }
 
+-- a key of the focused row: a press is noted, and a release is granted where the press was
 abbrev pub plain_key : RowId → Bool → ℕ → ℕ → Scene → InputOutcome
 plain_key id true code state scene =
     with_deliveries scene (with_pressed_keys (held code) scene.seat) (Grants id (g.Key id.window true code state) ∷ [])
@@ -120,30 +137,37 @@ key_to id down code state scene =
     else if down && (is_chord state && code == 55) then with_deliveries scene scene.seat (Pastes id ∷ [])
     else plain_key id down code state scene
 
+-- a key, with the focus on a row or on none
 abbrev pub key_by : Option RowId → Bool → ℕ → ℕ → Scene → InputOutcome
 key_by None down code state scene = ignored scene
 key_by (Some id) down code state scene = key_to id down code state scene
 
 -- ---- commands
 
+-- Close for the focus
 abbrev pub close_by : Option RowId → Scene → InputOutcome
 close_by None scene = ignored scene
 close_by (Some id) scene = with_deliveries scene scene.seat (Grants id (g.Close id.window) ∷ [])
 
+-- another place for the focus
 abbrev pub place_by : Option Row → (Rect → Rect) → Scene → InputOutcome
 place_by None f scene = ignored scene
 place_by (Some row) f scene = with_deliveries scene scene.seat (Grants (id_of row) (g.Place row.window (f row.place)) ∷ [])
 
+-- a place moved to a pixel
 abbrev pub move_to : ℤ → ℤ → Rect → Rect
 move_to x y place = record place { x = place_in_range x; y = place_in_range y }
 
+-- a place with another size
 abbrev pub size_to : ℤ → ℤ → Rect → Rect
 size_to w h place = record place { w = width_in_range (size_of w); h = height_in_range (size_of h) }
 
+-- a row raised, if there is one
 abbrev pub raise_by : Option Row → Scene → InputOutcome
 raise_by None scene = ignored scene
 raise_by (Some row) scene = raises (id_of row) [] scene
 
+-- a hidden row shown again, if there is one
 abbrev pub restore_by : Option Row → Scene → InputOutcome
 restore_by None scene = ignored scene
 restore_by (Some row) scene = raises (id_of row) (Grants (id_of row) (g.Restored row.window) ∷ []) scene
@@ -154,6 +178,7 @@ listed scene = filter_map (λ id. row_at id scene.rows) scene.layers.focus
 
 -- ---- all of them
 
+-- what an event of the user does
 abbrev pub route : Setup → Item → Scene → InputOutcome
 route setup (item.Key down code state) scene = key_by (focus_now scene) down code state scene
 route setup (item.Move x y state) scene = move setup (record { x = x; y = y }) state scene

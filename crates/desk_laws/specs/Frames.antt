@@ -27,6 +27,7 @@ write_words words i (v ∷ vs) = write_words (slice_set words i v) (i + 1) vs
 abbrev pub write : List ℕ → Waiting → List ℕ
 write words s = write_words words (1024 * s.page + s.offset / 4) (all_words s.bytes)
 
+-- stores written, one after the other
 abbrev pub write_all : List ℕ → List Waiting → List ℕ
 write_all words [] = words
 write_all words (s ∷ stores) = write_all (write words s) stores
@@ -36,10 +37,12 @@ abbrev pub put_by_due : Waiting → List Waiting → List Waiting
 put_by_due s [] = s ∷ []
 put_by_due s (t ∷ stores) = if nat_le s.due t.due then s ∷ t ∷ stores else t ∷ put_by_due s stores
 
+-- stores in order of due load, and then of arrival
 abbrev pub by_due : List Waiting → List Waiting
 by_due [] = []
 by_due (s ∷ stores) = put_by_due s (by_due stores)
 
+-- whether a store is due once so many words were loaded
 abbrev pub is_due : ℕ → Waiting → Bool
 is_due loads s = nat_le s.due loads
 
@@ -47,6 +50,7 @@ is_due loads s = nat_le s.due loads
 abbrev pub settled_words : List ℕ → ℕ → List Waiting → List ℕ
 settled_words words loads waiting = write_all words (by_due (filter (is_due loads) waiting))
 
+-- the stores that are not due yet
 abbrev pub still_waiting : ℕ → List Waiting → List Waiting
 still_waiting loads waiting = filter (λ s. not (is_due loads s)) waiting
 
@@ -68,6 +72,7 @@ stored_in words loads waiting delay page offset bytes =
     then Pool (write words (record { due = loads; page = page; offset = offset; bytes = bytes })) loads waiting
     else Pool words loads (waiting ++ record { due = counted (loads + delay); page = page; offset = offset; bytes = bytes } ∷ [])
 
+-- a change of the frames
 abbrev pub store : PortState → ℕ → ℕ → ℕ → List ℕ → PortState
 store (Pool words loads waiting) delay page offset bytes =
     stored_in (settled_words words loads waiting) loads (still_waiting loads waiting) delay page offset bytes
@@ -83,9 +88,11 @@ pub record Loads : Type 0 where
   pub words : List ℕ
   pub port : PortState
 
+-- one load before others
 abbrev pub load_first : ℕ → Loads → Loads
 load_first w g = record { words = w ∷ g.words; port = g.port }
 
+-- loads one after the other
 abbrev pub load_all : PortState → List FramePlace → Loads
 load_all port [] = record { words = []; port = port }
 load_all port (s ∷ frame_places) = load_first (load port s.page s.word).0 (load_all (load port s.page s.word).1 frame_places)

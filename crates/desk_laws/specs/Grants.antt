@@ -44,15 +44,18 @@ grant_answers (Restored window) paste = []
 grant_answers (ClipAsk window) paste = daemon_spelling window daemon.ClipAsk ∷ []
 grant_answers (ClipGive window) paste = daemon_spelling window (daemon.ClipGive paste) ∷ []
 
+-- the rows after a grant, and what it answers
 pub record Granted : Type 0 where
   pub rows : List Row
   pub answers : List (List ℕ)
 
+-- a grant to a row, if it is there
 abbrev pub granted_to : ℕ → List Row → GIn → List ℕ → Option Row → Granted
 granted_to guest rows input paste None = record { rows = rows; answers = [] }
 granted_to guest rows input paste (Some row) =
     record { rows = changed guest (grant_change input row) rows; answers = grant_answers input paste }
 
+-- a grant to the window that it names, or to the guest as a whole
 abbrev pub granted_by : ℕ → List Row → GIn → List ℕ → Option ℕ → Granted
 granted_by guest rows input paste None = record { rows = rows; answers = grant_answers input paste }
 granted_by guest rows input paste (Some window) = granted_to guest rows input paste (row_with window (mine guest rows))

@@ -19,3 +19,4 @@ pub mod State
 pub mod Settle
 pub mod Events
 pub mod Steps
+pub mod WorkedRows

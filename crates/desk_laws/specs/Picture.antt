@@ -12,9 +12,11 @@ abbrev pub label_in : Option GuestSetup → ℕ
 label_in None = 0
 label_in (Some guest) = guest.colour.0
 
+-- the label colour of a guest
 abbrev pub label_of : Setup → ℕ → ℕ
 label_of setup guest = label_in (slice_get setup.guests guest)
 
+-- a number from 0 on
 abbrev pub nat_of : ℤ → ℕ
 nat_of (pos n) = n
 nat_of (negsuc n) = 0
@@ -28,6 +30,7 @@ colour_read (Some colour) = colour
 abbrev pub content_under : Row → Point → Option ℕ
 content_under row p = content_at row (nat_of (p.x -ℤ row.place.x)) (nat_of (p.y -ℤ row.place.y))
 
+-- the colour of a pixel by its owner: the content inside the owner's place, the label colour in its border, the background where nobody owns it
 abbrev pub colour_by : Setup → Option Row → Point → ℕ
 colour_by setup None p = setup.background.0
 colour_by setup (Some row) p = if has row.place p then colour_read (content_under row p) else label_of setup row.guest
@@ -40,5 +43,6 @@ colour_at setup rows layers p = colour_by setup (topmost setup.border rows layer
 abbrev pub pixels : ℕ → ℕ → ℕ → ℕ → List Point
 pixels x y w h = flat_map (λ j. map (λ i. record { x = pos i; y = pos j }) (span x w)) (span y h)
 
+-- the colours of all pixels, row by row from the top
 abbrev pub picture : Setup → List Row → Layers → List ℕ
 picture setup rows layers = map (colour_at setup rows layers) (pixels 0 0 setup.width setup.height)

@@ -7,9 +7,11 @@ use Rattle.gui_num.specs.declared.Rect.{Rect}
 abbrev pub place_in_range : ℤ → ℤ
 place_in_range z = int_max (negsuc 32767) (int_min (pos 32767) z)
 
+-- a width from 1 to 16384 (qubes-gui-protocol.h, MAX_WINDOW_WIDTH)
 abbrev pub width_in_range : ℕ → ℕ
 width_in_range n = max 1 (min n 16384)
 
+-- a height from 1 to 6144 (qubes-gui-protocol.h, MAX_WINDOW_HEIGHT)
 abbrev pub height_in_range : ℕ → ℕ
 height_in_range n = max 1 (min n 6144)
 

@@ -30,9 +30,11 @@ pub record Row : Type 0 where
   pub dump : Option DumpOf
   pub contents : List (Option ℕ)
 
+-- a row's id
 abbrev pub id_of : Row → RowId
 id_of row = record { guest = row.guest; window = row.window }
 
+-- whether two ids are of one row
 abbrev pub same_row : RowId → RowId → Bool
 same_row a b = a.guest == b.guest && a.window == b.window
 
@@ -78,6 +80,7 @@ abbrev pub content_of : Option (Option ℕ) → Option ℕ
 content_of None = None
 content_of (Some content) = content
 
+-- what was last read at a pixel of a row, if something was
 abbrev pub content_at : Row → ℕ → ℕ → Option ℕ
 content_at row x y =
     if nat_lt x row.place.w && nat_lt y row.place.h then content_of (slice_get row.contents (y * row.place.w + x)) else None

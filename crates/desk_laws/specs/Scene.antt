@@ -24,15 +24,18 @@ pub record Seat : Type 0 where
   pub focus : Option RowId
   pub hover : Option RowId
 
+-- no pointer, no grab, no key, no focus
 abbrev pub idle_seat : Seat
 idle_seat = record { pointer = None; grab = None; pressed_keys = []; focus = None; hover = None }
 
+-- what is on the desktop: all rows, their layers, the seat and the clipboard
 pub record Scene : Type 0 where
   pub rows : List Row
   pub layers : Layers
   pub seat : Seat
   pub clip : Clip
 
+-- nothing is on the desktop
 abbrev pub empty_scene : Scene
 empty_scene = record { rows = []; layers = no_layers; seat = idle_seat; clip = empty_clip }
 
@@ -60,10 +63,12 @@ pub data Input : Type 0 where
   Closing : Input
   Losing : Input
 
+-- an input with the guest whose session it reached
 pub record GuestInput : Type 0 where
   pub guest : ℕ
   pub input : Input
 
+-- answers as posts for a guest
 abbrev pub replies : ℕ → List (List ℕ) → List Post
 replies guest answers = map (Reply guest) answers
 
@@ -85,6 +90,7 @@ outcome_after before next = record {
   inputs = before.inputs ++ next.inputs;
 }
 
+-- what comes out of one thing and then of another
 abbrev pub and_then : SceneOutcome → (Scene → SceneOutcome) → SceneOutcome
 and_then before step = outcome_after before (step before.scene)
 
@@ -98,6 +104,7 @@ grant_in id input paste g scene = record {
   inputs = record { guest = id.guest; input = Given input paste } ∷ [];
 }
 
+-- a grant where the row is there
 abbrev pub grant_where : Bool → RowId → GIn → List ℕ → Scene → SceneOutcome
 grant_where false id input paste scene = unchanged scene
 grant_where true id input paste scene = grant_in id input paste (granted id.guest scene.rows input paste) scene
@@ -114,13 +121,16 @@ pub data Delivery : Type 0 where
   Asks : RowId → Delivery
   Pastes : RowId → Delivery
 
+-- another clipboard
 abbrev pub with_clip : Clip → Scene → Scene
 with_clip clip scene = record scene { clip = clip }
 
+-- the held bytes for a row, which are held no longer
 abbrev pub pastes : RowId → Option Content → Scene → SceneOutcome
 pastes id None scene = unchanged scene
 pastes id (Some content) scene = grant id (ClipGive id.window) content.bytes (with_clip (wiped scene.clip) scene)
 
+-- one delivery
 abbrev pub deliver : Delivery → Scene → SceneOutcome
 deliver (Grants id input) scene = grant id input [] scene
 deliver (Asks id) scene = grant id (ClipAsk id.window) [] (with_clip (ask id.guest scene.clip) scene)
@@ -131,20 +141,24 @@ abbrev pub deliver_all : List Delivery → Scene → SceneOutcome
 deliver_all [] scene = unchanged scene
 deliver_all (d ∷ deliveries) scene = and_then (deliver d scene) (deliver_all deliveries)
 
--- what an event does to the lists and the seat, and what it seat on
+-- what an event does to the layers and the seat, and what it hands on
 pub record InputOutcome : Type 0 where
   pub layers : Layers
   pub seat : Seat
   pub deliveries : List Delivery
 
+-- nothing happens
 abbrev pub ignored : Scene → InputOutcome
 ignored scene = record { layers = scene.layers; seat = scene.seat; deliveries = [] }
 
+-- another seat, and deliveries
 abbrev pub with_deliveries : Scene → Seat → List Delivery → InputOutcome
 with_deliveries scene seat deliveries = record { layers = scene.layers; seat = seat; deliveries = deliveries }
 
+-- the scene with the layers and the seat of an outcome
 abbrev pub scene_of_input : InputOutcome → Scene → Scene
 scene_of_input r scene = record scene { layers = r.layers; seat = r.seat }
 
+-- the deliveries of an outcome, carried out
 abbrev pub perform : InputOutcome → Scene → SceneOutcome
 perform r scene = deliver_all r.deliveries (scene_of_input r scene)

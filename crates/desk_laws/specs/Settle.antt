@@ -12,6 +12,7 @@ use Rattle.desk_laws.specs.Scene.{Scene, SceneOutcome, Seat, Grab, Delivery, Gra
 
 -- ---- focus and hover
 
+-- the row that has the focus
 abbrev pub focus_now : Scene → Option RowId
 focus_now scene = option_map id_of (focus_of scene.rows scene.layers)
 
@@ -30,6 +31,7 @@ hover_by sizes scene None (Some p) = content_owner (topmost sizes.border scene.r
 abbrev pub hover_now : Sizes → Scene → Option RowId
 hover_now sizes scene = hover_by sizes scene scene.seat.grab scene.seat.pointer
 
+-- whether two ids, or none, are the same
 abbrev pub same_id : Option RowId → Option RowId → Bool
 same_id None None = true
 same_id None (Some b) = false
@@ -38,6 +40,7 @@ same_id (Some a) (Some b) = same_row a b
 
 -- ---- settle
 
+-- a grab, as long as its row is shown
 abbrev pub grab_shown : List Row → Option Grab → Option Grab
 grab_shown rows None = None
 grab_shown rows (Some grab) = if is_some_shown (row_at grab.row rows) then Some grab else None
@@ -46,6 +49,7 @@ grab_shown rows (Some grab) = if is_some_shown (row_at grab.row rows) then Some 
     is_some_shown None = false
     is_some_shown (Some row) = is_shown row
 
+-- a grab ends whose row isn't shown
 abbrev pub grab_checked : Scene → Scene
 grab_checked scene = record scene { seat = record scene.seat { grab = grab_shown scene.rows scene.seat.grab } }
 
@@ -55,28 +59,35 @@ from_corner None p = record { x = pos 0; y = pos 0 }
 from_corner (Some row) None = record { x = pos 0; y = pos 0 }
 from_corner (Some row) (Some p) = record { x = p.x -ℤ row.place.x; y = p.y -ℤ row.place.y }
 
+-- the pointer, from the corner of the row of an id
 abbrev pub pointer_in : RowId → Scene → Point
 pointer_in id scene = from_corner (row_at id scene.rows) scene.seat.pointer
 
+-- Enter or Leave for a row
 abbrev pub crossing : Bool → Option RowId → Scene → List Delivery
 crossing enter None scene = []
 crossing enter (Some id) scene =
     Grants id (Crossing id.window enter (pointer_in id scene).x (pointer_in id scene).y (same_id (Some id) (focus_now scene))) ∷ []
 
+-- FocusIn or FocusOut for a row
 abbrev pub focusing : Bool → Option RowId → List Delivery
 focusing gained None = []
 focusing gained (Some id) = Grants id (Focus id.window gained) ∷ []
 
+-- the keyboard's state for a row's guest
 abbrev pub keymap : Option RowId → List Delivery
 keymap None = []
 keymap (Some id) = Grants id Keymap ∷ []
 
+-- what is told where the focus is another
 abbrev pub focus_told : Option RowId → Option RowId → List Delivery
 focus_told old new = if same_id old new then [] else focusing false old ++ focusing true new ++ keymap new
 
+-- what is told where the hover is another
 abbrev pub hover_told : Option RowId → Option RowId → Scene → List Delivery
 hover_told old new scene = if same_id old new then [] else crossing false old scene ++ crossing true new scene
 
+-- the seat with this focus and hover told; where the focus is another, all noted keys are forgotten
 abbrev pub settled_seat : Option RowId → Option RowId → Seat → Seat
 settled_seat focus hover seat = record {
   pointer = seat.pointer;

@@ -2,6 +2,7 @@
 use Rattle.std.specs.Prelude.{ℕ}
 use Rattle.desk_laws.specs.declared.setup.Setup.{Setup}
 
+-- the numbers of a setup
 pub record Sizes : Type 0 where
   pub width : ℕ
   pub height : ℕ
@@ -10,6 +11,7 @@ pub record Sizes : Type 0 where
   pub tiles : ℕ
   pub percent : ℕ
 
+-- the numbers of this setup
 abbrev pub sizes_of : Setup → Sizes
 sizes_of setup = record {
   width = setup.width;

@@ -13,11 +13,13 @@ pub record Session : Type 0 where
   pub ended : Option Cause
   pub port : PortState
 
+-- the state of the desktop: what is on it, a session for each guest, and the counts
 pub record DeskState : Type 0 where
   pub scene : Scene
   pub sessions : List Session
   pub counts : Counts
 
+-- a word that was loaded from the frames of a guest
 pub record GuestLoad : Type 0 where
   pub guest : ℕ
   pub word : ℕ
@@ -42,10 +44,11 @@ step_after before next = record {
   readings = before.readings ++ next.readings;
 }
 
+-- one step and then another
 abbrev pub and_next : StepOutcome → (DeskState → StepOutcome) → StepOutcome
 and_next before step = step_after before (step before.desk)
 
--- a scene that was outcome, in the desk around it
+-- what came out of the scene, in the desk around it
 abbrev pub on_desk : SceneOutcome → List GuestLoad → DeskState → StepOutcome
 on_desk outcome readings desk = record {
   desk = record desk { scene = outcome.scene };
@@ -56,9 +59,11 @@ on_desk outcome readings desk = record {
 
 -- ---- parts of the state
 
+-- a session that has not begun, with so many pages of zero words
 abbrev pub fresh : ℕ → Session
 fresh pages = record { greeted = false; rest = []; minor = 0; ended = None; port = zeros pages }
 
+-- the state before any item
 abbrev pub opening : Setup → DeskState
 opening setup = record {
   scene = empty_scene;
@@ -66,28 +71,35 @@ opening setup = record {
   counts = record { items = 0; messages = 0; glances = 0 };
 }
 
+-- the session of a guest
 abbrev pub session_of : ℕ → DeskState → Session
 session_of guest desk = slice_index_or desk.sessions guest (fresh 0)
 
+-- another session of a guest
 abbrev pub with_session : ℕ → Session → DeskState → DeskState
 with_session guest session desk = record desk { sessions = slice_set desk.sessions guest session }
 
+-- one item more
 abbrev pub count_item : DeskState → DeskState
 count_item desk = record desk { counts = record desk.counts { items = counted (desk.counts.items + 1) } }
 
 -- ---- one guest's part of what came out
 
+-- the inputs of one guest
 abbrev pub inputs_of : ℕ → List GuestInput → List Input
 inputs_of guest told = map (λ t. t.input) (filter (λ t. t.guest == guest) told)
 
+-- the words loaded for one guest
 abbrev pub readings_of : ℕ → List GuestLoad → List ℕ
 readings_of guest readings = map (λ r. r.word) (filter (λ r. r.guest == guest) readings)
 
+-- whether a post is for this guest
 abbrev pub is_post_of : ℕ → Post → Bool
 is_post_of guest (Reply g bytes) = g == guest
 is_post_of guest (Ended g cause) = g == guest
 is_post_of guest (Picture width height colours) = false
 is_post_of guest (Summary counts) = false
 
+-- the posts for one guest
 abbrev pub posts_of : ℕ → List Post → List Post
 posts_of guest posts = filter (is_post_of guest) posts

@@ -20,6 +20,7 @@ use Rattle.desk_laws.specs.Events.{route}
 use Rattle.desk_laws.specs.Items.{FedItem}
 use Rattle.desk_laws.specs.Stage.{keeps_rest}
 
+-- how many bytes the clipboard holds (qubes-gui-protocol.h, MAX_CLIPBOARD_SIZE)
 abbrev pub clip_limit : ℕ
 clip_limit = 65000
 
@@ -30,11 +31,13 @@ abbrev pub clip_after : ℕ → Option AgentMessage → Clip → Clip
 clip_after guest (Some (agent.ClipData bytes)) clip = give clip_limit guest bytes clip
 clip_after guest m clip = clip
 
+-- the clipboard after a unit
 abbrev pub clip_of_unit : ℕ → StreamUnit → Clip → Clip
 clip_of_unit guest (Word word) clip = clip
 clip_of_unit guest (Stop cause) clip = clip
 clip_of_unit guest (Whole header body) clip = clip_after guest (reading header.kind body) clip
 
+-- how many messages a unit counts for
 abbrev pub messages_of : StreamUnit → ℕ
 messages_of (Word word) = 0
 messages_of (Stop cause) = 0
@@ -54,6 +57,7 @@ ends setup guest input cause desk =
     on_desk (and_then (end_told guest input cause desk.scene) (settle (sizes_of setup))) []
     (with_session guest (record (session_of guest desk) { rest = []; ended = Some cause }) desk)
 
+-- the scene after a unit, with what is told
 abbrev pub unit_told : ℕ → StreamUnit → Effect → Scene → SceneOutcome
 unit_told guest unit e scene = record {
   scene = with_clip (clip_of_unit guest unit scene.clip) (with_rows e.rows scene);
@@ -61,25 +65,30 @@ unit_told guest unit e scene = record {
   inputs = record { guest = guest; input = Took unit } ∷ [];
 }
 
+-- the counts after a unit
 abbrev pub counts_after : StreamUnit → Effect → Counts → Counts
 counts_after unit e counts = record counts {
   messages = counted (counts.messages + messages_of unit);
   glances = counted (counts.glances + length e.readings);
 }
 
+-- the guest's session after a unit
 abbrev pub session_after : StreamUnit → Effect → Session → Session
 session_after unit e session = record session { greeted = is_greeting unit || session.greeted; minor = e.minor; port = e.port }
 
+-- a unit that ended nothing
 abbrev pub went : Setup → ℕ → StreamUnit → Effect → DeskState → StepOutcome
 went setup guest unit e desk =
     on_desk (and_then (unit_told guest unit e desk.scene) (settle (sizes_of setup))) (map (λ w. record { guest = guest; word = w }) e.readings)
     (with_session guest (session_after unit e (session_of guest desk))
     (record desk { counts = counts_after unit e desk.counts }))
 
+-- a unit, whether it ended the session or not
 abbrev pub unit_done : Setup → ℕ → StreamUnit → Effect → Option Cause → DeskState → StepOutcome
 unit_done setup guest unit e None desk = went setup guest unit e desk
 unit_done setup guest unit e (Some cause) desk = ends setup guest (Took unit) cause desk
 
+-- the effect of a unit on this state
 abbrev pub unit_effect : Setup → ℕ → StreamUnit → DeskState → Effect
 unit_effect setup guest unit desk =
     effect (sizes_of setup) guest (session_of guest desk).minor desk.scene.rows (session_of guest desk).port unit
@@ -90,6 +99,7 @@ unit_of_open setup guest unit (Some cause) desk = stays desk
 unit_of_open setup guest unit None desk =
     unit_done setup guest unit (unit_effect setup guest unit desk) (unit_effect setup guest unit desk).cause desk
 
+-- one unit
 abbrev pub take_unit : Setup → ℕ → StreamUnit → DeskState → StepOutcome
 take_unit setup guest unit desk = unit_of_open setup guest unit (session_of guest desk).ended desk
 
@@ -105,6 +115,7 @@ abbrev pub is_nil : List ℕ → Bool
 is_nil [] = true
 is_nil (b ∷ bytes) = false
 
+-- the rest of a session, unless it has ended
 abbrev pub rest_of_open : ℕ → List ℕ → Option Cause → DeskState → DeskState
 rest_of_open guest rest (Some cause) desk = desk
 rest_of_open guest rest None desk = with_session guest (record (session_of guest desk) { rest = rest }) desk
@@ -113,18 +124,22 @@ rest_of_open guest rest None desk = with_session guest (record (session_of guest
 abbrev pub with_rest : ℕ → List ℕ → DeskState → DeskState
 with_rest guest rest desk = rest_of_open guest rest (session_of guest desk).ended desk
 
+-- the units of a cut, and its rest kept
 abbrev pub take_cut : Setup → ℕ → Cut → DeskState → StepOutcome
 take_cut setup guest c desk = take_units setup guest c.units (with_rest guest c.rest desk)
 
+-- bytes of a session, unless it has ended
 abbrev pub bytes_of_open : Setup → ℕ → List ℕ → Option Cause → DeskState → StepOutcome
 bytes_of_open setup guest piece (Some cause) desk = stays desk
 bytes_of_open setup guest piece None desk =
     take_cut setup guest (cut (session_of guest desk).greeted ((session_of guest desk).rest ++ piece)) desk
 
+-- a session ends, unless it has ended
 abbrev pub end_of_open : Setup → ℕ → Input → Cause → Option Cause → DeskState → StepOutcome
 end_of_open setup guest input cause (Some ended) desk = stays desk
 end_of_open setup guest input cause None desk = ends setup guest input cause desk
 
+-- a session ends
 abbrev pub end_session : Setup → ℕ → Input → Cause → DeskState → StepOutcome
 end_session setup guest input cause desk = end_of_open setup guest input cause (session_of guest desk).ended desk
 
@@ -139,6 +154,7 @@ abbrev pub take_bytes : Setup → ℕ → List ℕ → DeskState → StepOutcome
 take_bytes setup guest piece desk =
     and_next (bytes_of_open setup guest piece (session_of guest desk).ended desk) (cut_short setup guest)
 
+-- a change of a guest's frames, unless its session has ended
 abbrev pub store_of_open : ℕ → ℕ → ℕ → ℕ → List ℕ → Option Cause → DeskState → StepOutcome
 store_of_open guest delay page offset bytes (Some ended) desk = stays desk
 store_of_open guest delay page offset bytes None desk =
@@ -146,10 +162,12 @@ store_of_open guest delay page offset bytes None desk =
       port = store (session_of guest desk).port delay page offset bytes;
     }) desk)
 
+-- a change of a guest's frames
 abbrev pub take_store : ℕ → ℕ → ℕ → ℕ → List ℕ → DeskState → StepOutcome
 take_store guest delay page offset bytes desk =
     store_of_open guest delay page offset bytes (session_of guest desk).ended desk
 
+-- the picture is asked for
 abbrev pub snap : Setup → DeskState → StepOutcome
 snap setup desk = record {
   desk = desk;
@@ -158,6 +176,7 @@ snap setup desk = record {
   readings = [];
 }
 
+-- the input's end: the counts
 abbrev pub summary : DeskState → StepOutcome
 summary desk = record { desk = desk; posts = Summary desk.counts ∷ []; inputs = []; readings = [] }
 
@@ -176,6 +195,7 @@ step_counted setup (item.Lost guest) piece desk = end_session setup guest Losing
 step_counted setup item.Idle piece desk = stays desk
 step_counted setup i piece desk = event setup i desk
 
+-- an item counts, but for Idle
 abbrev pub count_of : Item → DeskState → DeskState
 count_of item.Idle desk = desk
 count_of i desk = count_item desk

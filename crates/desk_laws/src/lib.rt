@@ -11,9 +11,11 @@ mod item;
 mod row_id;
 mod rules;
 mod setup;
+mod worked;
 
 pub use cause::Cause;
 pub use input::GIn;
 pub use item::Item;
 pub use row_id::RowId;
 pub use setup::{GuestSetup, Guests, Name, Setup};
+pub use worked::worked_rows;

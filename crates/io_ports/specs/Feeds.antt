@@ -22,6 +22,7 @@ pub record Coming : Type 0 where
   pub items : List FedItem
   pub fate : Option RecordFault
 
+-- End, which is given where no item is left
 abbrev pub end_of_items : FedItem
 end_of_items = record { item = End; piece = [] }
 
@@ -35,6 +36,7 @@ ComesFirst [] None (Err (Bad fault)) after = ⊥
 ComesFirst [] (Some f) (Ok given) after = ⊥
 ComesFirst [] (Some f) (Err (Bad fault)) after = (fault ≡ f) × (after ≡ Some (record { items = []; fate = Some f }))
 
+-- what a feed answers, by what it has left
 abbrev pub ComesNext : Coming → Answer → Option Coming → Type 0
 ComesNext coming answer after = ComesFirst coming.items coming.fate answer after
 

@@ -9,6 +9,7 @@ pub record Kept (X : Type 0) : Type 0 where
   pub items : List X
   pub is_whole : Bool
 
+-- nothing was kept yet
 abbrev pub none_kept : {X : Type 0} → Kept X
 none_kept = record { items = []; is_whole = true }
 
