@@ -1,4 +1,5 @@
 pub mod PictureLemmas
+pub mod PictureBytes
 pub mod GuestPosts
 pub mod WriterLemmas
 pub mod DeskFacts

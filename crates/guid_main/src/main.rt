@@ -14,6 +14,8 @@ mod replay_feed;
 mod run;
 mod status;
 mod summary_writer;
+#[cfg(test)]
+mod tests;
 
 use crate::run::run;
 use crate::status::Status;

@@ -57,12 +57,7 @@ fn status_of(outcome: Outcome) -> Status
 }
 
 // Replays the items behind this setup.
-fn replay<S: Source, K: Sink>(
-    alloc: Global,
-    setup: &Setup,
-    input: &mut S,
-    out: &mut K,
-) -> Status
+fn replay<S: Source, K: Sink>(alloc: Global, setup: &Setup, input: &mut S, out: &mut K) -> Status
     requires sound { first_broken setup.now ≡ None }
     requires fits { Fits setup.now }
     ensures says { Told (S.left input.old) (λ bytes. SaysBy (record_behind setup.now) bytes (S.left input.new) result (K.written out.old) (K.written out.new)) }

@@ -2,7 +2,7 @@ use Rattle.std.proofs.Common.{◌≡◌, ◌+◌, ◌*◌, ◌≤◌, ◌++◌, 
 use Rattle.std.specs.Prelude.{string_bytes}
 use Rattle.std.specs.Int.{w32, to_le_bytes}
 use Rattle.guid_main.specs.OutputGrammar.{ppm_head}
-use Rattle.guid_main.proofs.PictureLemmas.{head_small, area_small, head_is}
+use Rattle.guid_main.proofs.PictureBytes.{head_small, area_small, head_is}
 use Rattle.guid_main.proofs.picture_writer.picture_head.Goals as goal
 
 pub overflow_cast-size-3 : goal.overflow_cast-size-3

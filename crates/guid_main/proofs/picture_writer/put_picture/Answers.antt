@@ -3,7 +3,7 @@ use Rattle.std.specs.List.{flat_map}
 use Rattle.std.proofs.lemmas.Result.{on_ok_weaker, on_err_weaker}
 use Rattle.io_ports.proofs.GrowLemmas.{grows_on, part_front, part_behind}
 use Rattle.guid_main.specs.OutputGrammar.{rgb, picture_record}
-use Rattle.guid_main.proofs.PictureLemmas.{picture_is}
+use Rattle.guid_main.proofs.PictureBytes.{picture_is}
 use Rattle.guid_main.proofs.picture_writer.put_picture.Goals as goal
 
 pub returns-in-Ok-clause-ok : goal.returns-in-Ok-clause-ok

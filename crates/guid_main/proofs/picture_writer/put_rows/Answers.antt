@@ -3,7 +3,7 @@ use Rattle.std.specs.List.{flat_map}
 use Rattle.io_ports.specs.Content.{Grows}
 use Rattle.io_ports.proofs.GrowLemmas.{grows_none, grows_on, part_on}
 use Rattle.guid_main.specs.OutputGrammar.{rgb}
-use Rattle.guid_main.proofs.PictureLemmas.{rows_none, rows_more, rows_within, rows_all}
+use Rattle.guid_main.proofs.PictureBytes.{rows_none, rows_more, rows_within, rows_all}
 use Rattle.guid_main.proofs.picture_writer.put_rows.Goals as goal
 
 pub loop-y-init : goal.loop-y-init

@@ -9,7 +9,7 @@ returns-clause-says g c = λ bytes told.
     let over = c.desk_run-outcome.ensures.ran in
     let made = c.in-Ok.ensures in
     let kept = fed_source (λ s. g.S.Source.left s.now) (λ s. g.S.Source.faults s.now) (λ a b. (b.ghost_name ≡ a.ghost_name) × g.S.Source.keeps a.now b.now) c.in-Ok.feed c.desk_run-outcome.new.feed over.given over.last
-        (λ a. (refl, g.met.S.Source.keeps_same a.now)) (λ a b d first second. (second.0 ∙ first.0, g.met.S.Source.keeps_on a.now b.now d.now first.1 second.1)) over.fed in
+    (λ a. (refl, g.met.S.Source.keeps_same a.now)) (λ a b d first second. (second.0 ∙ first.0, g.met.S.Source.keeps_on a.now b.now d.now first.1 second.1)) over.fed in
     let here = c.input-2-1.given.1 (sym (kept.0 ∙ ap (λ s. s.ghost_name) made.source)) in
     says_again g.S.Source.left c.args.setup.now bytes _ c.status_of.result _ _ _ c.desk_run-outcome.new.feed.source.now here c.status_of.ensures.is
     (outcome_says (λ s. g.S.Source.left s.now) (λ s. g.S.Source.faults s.now) (λ a b. (b.ghost_name ≡ a.ghost_name) × g.S.Source.keeps a.now b.now) c.args.setup.now c.in-Ok.feed c.desk_run-outcome.new.feed bytes
@@ -20,7 +20,7 @@ returns-clause-read_later g c =
     let over = c.desk_run-outcome.ensures.ran in
     let made = c.in-Ok.ensures in
     let kept = fed_source (λ s. g.S.Source.left s.now) (λ s. g.S.Source.faults s.now) (λ a b. (b.ghost_name ≡ a.ghost_name) × g.S.Source.keeps a.now b.now) c.in-Ok.feed c.desk_run-outcome.new.feed over.given over.last
-        (λ a. (refl, g.met.S.Source.keeps_same a.now)) (λ a b d first second. (second.0 ∙ first.0, g.met.S.Source.keeps_on a.now b.now d.now first.1 second.1)) over.fed in
+    (λ a. (refl, g.met.S.Source.keeps_same a.now)) (λ a b d first second. (second.0 ∙ first.0, g.met.S.Source.keeps_on a.now b.now d.now first.1 second.1)) over.fed in
     let here = c.input-2-1.given.1 (sym (kept.0 ∙ ap (λ s. s.ghost_name) made.source)) in
     let before : g.S.Source.faults c.in-Ok.feed.source.now ≡ g.S.Source.faults c.args.input.now = ap (λ s. g.S.Source.faults s.now) made.source in
     later_again g.S.Source.faults c.args.input.now _ c.desk_run-outcome.new.feed.source.now here (omega (arith, before, c.desk_run-outcome.ensures.read_later))
@@ -30,7 +30,7 @@ returns-clause-read g c = λ is.
     let over = c.desk_run-outcome.ensures.ran in
     let made = c.in-Ok.ensures in
     let kept = fed_source (λ s. g.S.Source.left s.now) (λ s. g.S.Source.faults s.now) (λ a b. (b.ghost_name ≡ a.ghost_name) × g.S.Source.keeps a.now b.now) c.in-Ok.feed c.desk_run-outcome.new.feed over.given over.last
-        (λ a. (refl, g.met.S.Source.keeps_same a.now)) (λ a b d first second. (second.0 ∙ first.0, g.met.S.Source.keeps_on a.now b.now d.now first.1 second.1)) over.fed in
+    (λ a. (refl, g.met.S.Source.keeps_same a.now)) (λ a b d first second. (second.0 ∙ first.0, g.met.S.Source.keeps_on a.now b.now d.now first.1 second.1)) over.fed in
     let here = c.input-2-1.given.1 (sym (kept.0 ∙ ap (λ s. s.ghost_name) made.source)) in
     let before : g.S.Source.faults c.in-Ok.feed.source.now ≡ g.S.Source.faults c.args.input.now = ap (λ s. g.S.Source.faults s.now) made.source in
     rose_again g.S.Source.faults c.args.input.now _ c.desk_run-outcome.new.feed.source.now here
