@@ -1,5 +1,5 @@
 -- What bytes from the daemon begin with.
-use Rattle.std.specs.Prelude.{ℕ, ◌≡◌, ◌+◌, ◌-◌, Bool, true, false, List, ◌++◌, length, take, drop, Option, Some, None, if◌then◌else◌, nat_lt}
+use Rattle.std.specs.Prelude.{ℕ, ◌≡◌, ◌+◌, ◌-◌, List, length, take, drop, Option, Some, None, if◌then◌else◌, nat_lt}
 use Rattle.gui_wire.specs.declared.Header.{Header}
 use Rattle.gui_wire.specs.DaemonMessages.{DaemonMessage, daemon_length, fits_length, daemon_reading, daemon_spelling, HasDaemonSpelling}
 use Rattle.gui_wire.specs.Headers.{header_at}

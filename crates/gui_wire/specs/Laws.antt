@@ -1,7 +1,7 @@
 -- Spellings can be told apart.
 use Rattle.std.specs.Prelude.{ℕ, ◌≡◌, ◌≢◌, ◌<◌, ◌^◌, List, [], ◌++◌}
-use Rattle.gui_wire.specs.AgentMessages.{AgentMessage, spelling, HasSpelling}
-use Rattle.gui_wire.specs.DaemonMessages.{DaemonMessage, daemon_spelling, HasDaemonSpelling}
+use Rattle.gui_wire.specs.AgentMessages.{spelling, HasSpelling}
+use Rattle.gui_wire.specs.DaemonMessages.{daemon_spelling, HasDaemonSpelling}
 
 -- the second list is the first one and something behind it
 abbrev pub IsProperPrefix : List ℕ → List ℕ → Type 0
