@@ -1,8 +1,8 @@
-pub mod Rules
 pub mod Causes
 pub mod Sizes
 pub mod Stage
 pub mod Items
+pub mod Rules
 pub mod Stream
 pub mod Rows
 pub mod Frames
@@ -15,7 +15,7 @@ pub mod Layers
 pub mod Picture
 pub mod Clipboard
 pub mod Scene
-pub mod Desk
+pub mod State
 pub mod Settle
 pub mod Events
 pub mod Steps

@@ -38,3 +38,7 @@ takes_item Snap = true
 takes_item End = true
 takes_item Idle = true
 takes_item item = false
+
+-- how many guests there may be: one
+abbrev pub takes_guests : ℕ → Bool
+takes_guests n = n == 1

@@ -14,7 +14,7 @@ use Rattle.desk_laws.specs.Effects.{Effect, effect, changed, Cleared}
 use Rattle.desk_laws.specs.Clipboard.{Clip, give, forget}
 use Rattle.desk_laws.specs.Picture.{picture}
 use Rattle.desk_laws.specs.Scene.{Scene, SceneOutcome, Counts, Ended, Picture, Summary, Input, Took, Closing, Losing, and_then, with_rows, with_clip, perform, replies}
-use Rattle.desk_laws.specs.Desk.{Desk, StepOutcome, Session, stays, and_next, on_desk, session_of, with_session, count_item}
+use Rattle.desk_laws.specs.State.{DeskState, StepOutcome, Session, stays, and_next, on_desk, session_of, with_session, count_item}
 use Rattle.desk_laws.specs.Settle.{settle}
 use Rattle.desk_laws.specs.Events.{route}
 use Rattle.desk_laws.specs.Items.{FedItem}
@@ -49,7 +49,7 @@ end_told guest input cause scene = record {
 }
 
 -- a session ends with a cause
-abbrev pub ends : Setup → ℕ → Input → Cause → Desk → StepOutcome
+abbrev pub ends : Setup → ℕ → Input → Cause → DeskState → StepOutcome
 ends setup guest input cause desk =
     on_desk (and_then (end_told guest input cause desk.scene) (settle (sizes_of setup))) []
     (with_session guest (record (session_of guest desk) { rest = []; ended = Some cause }) desk)
@@ -70,31 +70,31 @@ counts_after unit e counts = record counts {
 abbrev pub session_after : StreamUnit → Effect → Session → Session
 session_after unit e session = record session { greeted = is_greeting unit || session.greeted; minor = e.minor; port = e.port }
 
-abbrev pub went : Setup → ℕ → StreamUnit → Effect → Desk → StepOutcome
+abbrev pub went : Setup → ℕ → StreamUnit → Effect → DeskState → StepOutcome
 went setup guest unit e desk =
     on_desk (and_then (unit_told guest unit e desk.scene) (settle (sizes_of setup))) (map (λ w. record { guest = guest; word = w }) e.readings)
     (with_session guest (session_after unit e (session_of guest desk))
     (record desk { counts = counts_after unit e desk.counts }))
 
-abbrev pub unit_done : Setup → ℕ → StreamUnit → Effect → Option Cause → Desk → StepOutcome
+abbrev pub unit_done : Setup → ℕ → StreamUnit → Effect → Option Cause → DeskState → StepOutcome
 unit_done setup guest unit e None desk = went setup guest unit e desk
 unit_done setup guest unit e (Some cause) desk = ends setup guest (Took unit) cause desk
 
-abbrev pub unit_effect : Setup → ℕ → StreamUnit → Desk → Effect
+abbrev pub unit_effect : Setup → ℕ → StreamUnit → DeskState → Effect
 unit_effect setup guest unit desk =
     effect (sizes_of setup) guest (session_of guest desk).minor desk.scene.rows (session_of guest desk).port unit
 
 -- one unit of a session that hasn't ended
-abbrev pub unit_of_open : Setup → ℕ → StreamUnit → Option Cause → Desk → StepOutcome
+abbrev pub unit_of_open : Setup → ℕ → StreamUnit → Option Cause → DeskState → StepOutcome
 unit_of_open setup guest unit (Some cause) desk = stays desk
 unit_of_open setup guest unit None desk =
     unit_done setup guest unit (unit_effect setup guest unit desk) (unit_effect setup guest unit desk).cause desk
 
-abbrev pub take_unit : Setup → ℕ → StreamUnit → Desk → StepOutcome
+abbrev pub take_unit : Setup → ℕ → StreamUnit → DeskState → StepOutcome
 take_unit setup guest unit desk = unit_of_open setup guest unit (session_of guest desk).ended desk
 
 -- units in order, until one ends the session
-abbrev pub take_units : Setup → ℕ → List StreamUnit → Desk → StepOutcome
+abbrev pub take_units : Setup → ℕ → List StreamUnit → DeskState → StepOutcome
 take_units setup guest [] desk = stays desk
 take_units setup guest (unit ∷ units) desk = and_next (take_unit setup guest unit desk) (take_units setup guest units)
 
@@ -105,52 +105,52 @@ abbrev pub is_nil : List ℕ → Bool
 is_nil [] = true
 is_nil (b ∷ bytes) = false
 
-abbrev pub rest_of_open : ℕ → List ℕ → Option Cause → Desk → Desk
+abbrev pub rest_of_open : ℕ → List ℕ → Option Cause → DeskState → DeskState
 rest_of_open guest rest (Some cause) desk = desk
 rest_of_open guest rest None desk = with_session guest (record (session_of guest desk) { rest = rest }) desk
 
 -- the rest of a session that hasn't ended
-abbrev pub with_rest : ℕ → List ℕ → Desk → Desk
+abbrev pub with_rest : ℕ → List ℕ → DeskState → DeskState
 with_rest guest rest desk = rest_of_open guest rest (session_of guest desk).ended desk
 
-abbrev pub take_cut : Setup → ℕ → Cut → Desk → StepOutcome
+abbrev pub take_cut : Setup → ℕ → Cut → DeskState → StepOutcome
 take_cut setup guest c desk = take_units setup guest c.units (with_rest guest c.rest desk)
 
-abbrev pub bytes_of_open : Setup → ℕ → List ℕ → Option Cause → Desk → StepOutcome
+abbrev pub bytes_of_open : Setup → ℕ → List ℕ → Option Cause → DeskState → StepOutcome
 bytes_of_open setup guest piece (Some cause) desk = stays desk
 bytes_of_open setup guest piece None desk =
     take_cut setup guest (cut (session_of guest desk).greeted ((session_of guest desk).rest ++ piece)) desk
 
-abbrev pub end_of_open : Setup → ℕ → Input → Cause → Option Cause → Desk → StepOutcome
+abbrev pub end_of_open : Setup → ℕ → Input → Cause → Option Cause → DeskState → StepOutcome
 end_of_open setup guest input cause (Some ended) desk = stays desk
 end_of_open setup guest input cause None desk = ends setup guest input cause desk
 
-abbrev pub end_session : Setup → ℕ → Input → Cause → Desk → StepOutcome
+abbrev pub end_session : Setup → ℕ → Input → Cause → DeskState → StepOutcome
 end_session setup guest input cause desk = end_of_open setup guest input cause (session_of guest desk).ended desk
 
 -- a session ends that is left with a part of a unit, where no part may be kept
-abbrev pub cut_short : Setup → ℕ → Desk → StepOutcome
+abbrev pub cut_short : Setup → ℕ → DeskState → StepOutcome
 cut_short setup guest desk =
     if keeps_rest || is_nil (session_of guest desk).rest then stays desk
     else end_session setup guest Closing (StreamEnded 0 0) desk
 
 -- the bytes of a piece
-abbrev pub take_bytes : Setup → ℕ → List ℕ → Desk → StepOutcome
+abbrev pub take_bytes : Setup → ℕ → List ℕ → DeskState → StepOutcome
 take_bytes setup guest piece desk =
     and_next (bytes_of_open setup guest piece (session_of guest desk).ended desk) (cut_short setup guest)
 
-abbrev pub store_of_open : ℕ → ℕ → ℕ → ℕ → List ℕ → Option Cause → Desk → StepOutcome
+abbrev pub store_of_open : ℕ → ℕ → ℕ → ℕ → List ℕ → Option Cause → DeskState → StepOutcome
 store_of_open guest delay page offset bytes (Some ended) desk = stays desk
 store_of_open guest delay page offset bytes None desk =
     stays (with_session guest (record (session_of guest desk) {
       port = store (session_of guest desk).port delay page offset bytes;
     }) desk)
 
-abbrev pub take_store : ℕ → ℕ → ℕ → ℕ → List ℕ → Desk → StepOutcome
+abbrev pub take_store : ℕ → ℕ → ℕ → ℕ → List ℕ → DeskState → StepOutcome
 take_store guest delay page offset bytes desk =
     store_of_open guest delay page offset bytes (session_of guest desk).ended desk
 
-abbrev pub snap : Setup → Desk → StepOutcome
+abbrev pub snap : Setup → DeskState → StepOutcome
 snap setup desk = record {
   desk = desk;
   posts = Picture setup.width setup.height (picture setup desk.scene.rows desk.scene.layers) ∷ [];
@@ -158,15 +158,15 @@ snap setup desk = record {
   readings = [];
 }
 
-abbrev pub summary : Desk → StepOutcome
+abbrev pub summary : DeskState → StepOutcome
 summary desk = record { desk = desk; posts = Summary desk.counts ∷ []; inputs = []; readings = [] }
 
 -- what the user did, settled
-abbrev pub event : Setup → Item → Desk → StepOutcome
+abbrev pub event : Setup → Item → DeskState → StepOutcome
 event setup i desk = on_desk (and_then (perform (route setup i desk.scene) desk.scene) (settle (sizes_of setup))) [] desk
 
 -- an item, its count taken
-abbrev pub step_counted : Setup → Item → List ℕ → Desk → StepOutcome
+abbrev pub step_counted : Setup → Item → List ℕ → DeskState → StepOutcome
 step_counted setup (item.Bytes guest) piece desk = take_bytes setup guest piece desk
 step_counted setup (item.Closed guest) piece desk = end_session setup guest Closing (StreamEnded 0 0) desk
 step_counted setup (item.Store guest delay page offset) piece desk = take_store guest delay page offset piece desk
@@ -176,15 +176,15 @@ step_counted setup (item.Lost guest) piece desk = end_session setup guest Losing
 step_counted setup item.Idle piece desk = stays desk
 step_counted setup i piece desk = event setup i desk
 
-abbrev pub count_of : Item → Desk → Desk
+abbrev pub count_of : Item → DeskState → DeskState
 count_of item.Idle desk = desk
 count_of i desk = count_item desk
 
 -- one step
-abbrev pub step : Setup → Item → List ℕ → Desk → StepOutcome
+abbrev pub step : Setup → Item → List ℕ → DeskState → StepOutcome
 step setup i piece desk = step_counted setup i piece (count_of i desk)
 
 -- a whole run: one step for each item, in order
-abbrev pub run : Setup → List FedItem → Desk → StepOutcome
+abbrev pub run : Setup → List FedItem → DeskState → StepOutcome
 run setup [] desk = stays desk
 run setup (i ∷ items) desk = and_next (step setup i.item i.piece desk) (run setup items)

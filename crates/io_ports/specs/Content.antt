@@ -23,3 +23,7 @@ pub record Taken (before : List ℕ) (n : ℕ) (bytes : List ℕ) (after : Optio
 -- where what is left was told, the fact holds of it
 abbrev pub Told : {X : Type 0} → Option X → (X → Type 0) → Type 0
 Told {X = X} left fact = (told : X) → left ≡ Some told → fact told
+
+-- no content is told
+abbrev pub untold : Option (List ℕ)
+untold = None

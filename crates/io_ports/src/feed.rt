@@ -8,7 +8,7 @@ ghost use Rattle.io_ports.specs.Feeds.{Answer, Coming, ComesNext, answer_of, giv
 
 use desk_laws::Item;
 
-/// What is wrong with a record where a fault stands.
+/// What is wrong with a record where a fault stands. The record is this project's own format.
 #[derive(Clone, Copy, Debug, PartialEq, Eq)]
 pub enum RecordKind {
     /// It doesn't begin with the four bytes of a record.
@@ -21,10 +21,12 @@ pub enum RecordKind {
     Short,
 }
 
-/// A fault of a record, and the offset in bytes of the item where it stands.
+/// A fault of a record, and where it stands.
 #[derive(Clone, Copy, Debug, PartialEq, Eq)]
 pub struct RecordFault {
+    /// The offset in bytes, from the record's beginning, of the item where the fault stands.
     pub offset: u64,
+    /// What is wrong there.
     pub kind: RecordKind,
 }
 
@@ -40,10 +42,13 @@ pub enum FeedFault {
 /// An item, and how many bytes come with it.
 #[derive(Clone, Copy, Debug, PartialEq, Eq)]
 pub struct Next {
+    /// The item.
     pub item: Item,
+    /// The number of bytes at the front of the room that come with it.
     pub len: usize,
 }
 
+/// Where the items of a run come from.
 pub trait Feed {
     /// The number of guests that its items speak of.
     ghost guests: { Self → ℕ };
@@ -54,16 +59,21 @@ pub trait Feed {
     /// The items still to come, and what they end in, where they are told.
     ghost left: { Self → Option Coming };
 
-    /// How many items it has given.
+    /// How many items it has given, End and Idle among them: a count that stays at 2 ^ 64 - 1.
     ghost given: { Self → ℕ };
 
-    /// How often it has failed.
+    /// How often it has failed: a count that never falls, and stays at 2 ^ 64 - 1.
     ghost faults: { Self → ℕ };
 
     /// The feed before a call, what the call answered, and the feed after it.
     ghost gives: { Self → Answer → Self → Type 0 };
 
-    /// Gives the next item, and puts the bytes that come with it into the front of the room.
+    /// Gives the next item, and puts the bytes that come with it into the front of the room, which
+    /// has at least 65,536 bytes. The item is in range for the feed's guests and pages. Only Bytes
+    /// and Store come with bytes. Where no item is left and the items end well it gives End.
+    ///
+    /// Failed only where the count of faults rose. Bad exactly where no item is left and the items
+    /// end in this fault; it stays so.
     fn next(&mut self, room: &mut [u8]) -> Result<Next, FeedFault>
         requires room { 65536 ≤ length room.old }
         ensures gives { gives self.old (answer_of result room.new) self.new }

@@ -1,18 +1,31 @@
 //! The objects of the outside: where bytes come from and go to, with their faults counted.
+//!
+//! Every `Source`, `Sink` and `Feed` has a count of its faults. It never falls, and a call answers
+//! Failed only where it rose (a count that stands at 2 ^ 64 - 1 stays there). What an object tells
+//! of its content is optional: the adapters over std tell nothing, the forms in memory tell all,
+//! until one of them finds no memory for what it was to keep.
 #![tactic(auto)]
 
+mod fails;
 mod feed;
+mod held;
+mod kept;
 mod memory;
 mod outlet;
-mod outside;
+mod post_list;
 mod sink;
 mod source;
+mod std_streams;
 mod sure;
 
 pub use feed::{Feed, FeedFault, Next, RecordFault, RecordKind};
 pub use memory::{MemSink, MemSource};
 pub use outlet::Outlet;
-pub use outside::{StdSink, StdSource};
+pub use post_list::PostList;
 pub use sink::{Sink, put_all};
 pub use source::{Failed, Source, fill};
+pub use std_streams::{StdSink, StdSource};
 pub use sure::{SureSink, SureSource};
+
+#[cfg(test)]
+mod tests;

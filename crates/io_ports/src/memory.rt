@@ -1,125 +1,147 @@
 // Sources and sinks in memory, with a list of the calls that are to fail.
-ghost use Rattle.std.specs.Prelude.{◌≡◌, ◌≤◌, [], Some, None, vec_len, drop, if◌then◌else◌, IfOk};
-ghost use Rattle.std.specs.Bool.{OnTrue, OnFalse};
-ghost use Rattle.io_ports.specs.Counts.{Rose};
+ghost use Rattle.std.specs.Prelude.{◌≡◌, ℕ, ◌+◌, ◌<◌, ◌≤◌, ◌↔◌, [], length, min, take, drop, Option, Some, IfOk, OnErr, IsErr, is_err, ⊤};
+ghost use Rattle.io_ports.specs.Content.{Grows, Taken, Told};
+ghost use Rattle.io_ports.specs.Counts.{HasCause};
+ghost use Rattle.io_ports.specs.Memory.{FailsNext, KeepsMore, failing_after, none_kept, to_fail, told_of};
 
+use crate::fails::Fails;
+use crate::held::HeldBytes;
+use crate::kept::KeptBytes;
 use crate::{Failed, Sink, Source};
 use gui_num::NoMemory;
 use std::alloc::Global;
+use std::marker::Model;
 
-// The numbers of the calls that are to fail, counted from 1.
-#[derive(Drop)]
-struct Fails {
-    numbers: Vec<u64>,
-    calls: u64,
-    faults: u64,
-}
-
-impl Fails {
-    fn new(alloc: Global, numbers: &[u64]) -> Result<Self, NoMemory> {
-        Ok(Fails {
-            numbers: numbers.to_vec(alloc)?,
-            calls: 0,
-            faults: 0,
-        })
-    }
-
-    // Counts a call, and answers whether it fails.
-    fn next(&mut self) -> bool
-        ensures yes { OnTrue result (Rose self.old.faults self.new.faults) }
-        ensures no { OnFalse result (self.new.faults ≡ self.old.faults) }
-        ensures later { self.old.faults ≤ self.new.faults }
-    {
-        self.calls = self.calls.saturating_add(1);
-        let fails = self.numbers.contains(&self.calls);
-        if fails {
-            self.faults = self.faults.saturating_add(1);
-        }
-        fails
-    }
-}
-
+/// A source over bytes in memory, some of whose reads fail.
+///
+/// A read that doesn't fail gives as many bytes as fit into its room. One that fails gives none and
+/// takes none off. Contracts see the bytes that are left, and the reads that fail.
 #[derive(Drop)]
 pub struct MemSource {
-    bytes: Vec<u8>,
-    at: usize,
+    held: HeldBytes,
     fails: Fails,
-    ghost within: { at ≤ vec_len bytes },
+}
+
+impl Model for MemSource {
+    ghost use Rattle.io_ports.specs.Memory.{FailingSource};
+
+    ghost Value = { FailingSource };
+
+    ghost view = { λ s. record { left = s.held; failing = s.fails } };
 }
 
 impl MemSource {
+    /// A source of these bytes. `fails` has the numbers of the reads that fail, counted from 1.
+    /// Its only error is want of memory.
     pub fn new(alloc: Global, bytes: &[u8], fails: &[u64]) -> Result<Self, NoMemory>
-        ensures { IfOk result (λ s. ⟦<MemSource as Source>⟧.left s ≡ Some bytes.now) }
+        ensures bytes { IfOk result (λ s. s.left ≡ bytes.now) }
+        ensures fails { IfOk result (λ s. s.failing ≡ to_fail fails.now) }
     {
         Ok(MemSource {
-            bytes: bytes.to_vec(alloc)?,
-            at: 0,
+            held: HeldBytes::new(alloc, bytes)?,
             fails: Fails::new(alloc, fails)?,
         })
     }
 }
 
 impl Source for MemSource {
-    ghost left = { λ s. Some (drop s.at s.bytes.items) };
+    ghost left = { λ s. Some s.left };
 
-    ghost faults = { λ s. s.fails.faults };
+    ghost faults = { λ s. s.failing.faults };
 
     ghost keeps_same = { λ _. tt };
 
     ghost keeps_on = { λ _ _ _ _ _. tt };
 
-    fn read(&mut self, room: &mut [u8]) -> Result<usize, Failed> {
+    fn read(&mut self, room: &mut [u8]) -> Result<usize, Failed>
+        ensures bound { IfOk result (λ n. n ≤ length room.old) }
+        ensures taken { IfOk result (λ n. Told (Some self.old.left) (λ bytes. Taken bytes n room.new (Some self.new.left))) }
+        ensures end { IfOk result (λ n. Told (Some self.old.left) (λ bytes. 0 < length room.old → n ≡ 0 ↔ (bytes ≡ []))) }
+        ensures same { OnErr result (Some self.new.left ≡ Some self.old.left) }
+        ensures keeps { ⊤ }
+        ensures cause { HasCause self.old.failing.faults self.new.failing.faults result }
+
+        // It fails exactly where its number is listed, and else gives what fits.
+        ensures fails { IsErr result ↔ FailsNext self.old.failing }
+        ensures counts { self.new.failing ≡ failing_after (is_err result) self.old.failing }
+        ensures all { IfOk result (λ n. n ≡ min (length room.old) (length self.old.left)) }
+        ensures untouched { OnErr result (room.new ≡ room.old) }
+    {
         if self.fails.next() {
             return Err(Failed);
         }
-        let n = room.len().min(self.bytes.len() - self.at);
-        let end = self.at + n;
-        room[..n].copy_from_slice(&self.bytes[self.at..end]);
-        self.at = end;
-        Ok(n)
+        Ok(self.held.give(room))
     }
 }
 
-/// A sink that keeps what it is given, and tells nothing any longer once it found no memory for it.
+/// A sink that keeps what it is given in memory, some of whose puts fail.
+///
+/// A put that doesn't fail takes the whole piece, and one that fails keeps none of it. Once a put
+/// found no memory the sink answers as before, keeps nothing more, and tells no content. Contracts
+/// see the bytes that it kept, and the puts that fail.
 #[derive(Drop)]
 pub struct MemSink {
-    bytes: Vec<u8>,
-    is_whole: bool,
+    kept: KeptBytes,
     fails: Fails,
 }
 
+impl Model for MemSink {
+    ghost use Rattle.io_ports.specs.Memory.{FailingSink};
+
+    ghost Value = { FailingSink };
+
+    ghost view = { λ k. record { kept = k.kept; failing = k.fails } };
+}
+
 impl MemSink {
+    /// A sink that was given nothing. `fails` has the numbers of the puts that fail, counted from
+    /// 1. Its only error is want of memory.
     pub fn new(alloc: Global, fails: &[u64]) -> Result<Self, NoMemory>
-        ensures { IfOk result (λ k. ⟦<MemSink as Sink>⟧.written k ≡ Some []) }
+        ensures bytes { IfOk result (λ k. k.kept ≡ none_kept) }
+        ensures fails { IfOk result (λ k. k.failing ≡ to_fail fails.now) }
     {
         Ok(MemSink {
-            bytes: Vec::new(alloc),
-            is_whole: true,
+            kept: KeptBytes::new(alloc),
             fails: Fails::new(alloc, fails)?,
         })
     }
 
-    pub fn bytes(&self) -> &[u8] {
-        &self.bytes
+    /// The bytes that it kept: all that were put, unless it found no memory for some.
+    pub fn bytes(&self) -> &[u8]
+        ensures { result.now ≡ self.now.kept.items }
+    {
+        self.kept.bytes()
     }
 }
 
 impl Sink for MemSink {
-    ghost written = { λ k. if k.is_whole then Some k.bytes.items else None };
+    ghost written = { λ k. told_of k.kept };
 
-    ghost faults = { λ k. k.fails.faults };
+    ghost faults = { λ k. k.failing.faults };
 
     ghost keeps_same = { λ _. tt };
 
     ghost keeps_on = { λ _ _ _ _ _. tt };
 
-    fn put(&mut self, bytes: &[u8]) -> Result<usize, Failed> {
+    fn put(&mut self, bytes: &[u8]) -> Result<usize, Failed>
+        ensures bound { IfOk result (λ n. n ≤ length bytes.now) }
+        ensures some { IfOk result (λ n. 0 < length bytes.now → 0 < n) }
+        ensures grows { IfOk result (λ n. Grows (told_of self.old.kept) (take n bytes.now) (told_of self.new.kept)) }
+        ensures same { OnErr result (told_of self.new.kept ≡ told_of self.old.kept) }
+        ensures keeps { ⊤ }
+        ensures cause { HasCause self.old.failing.faults self.new.failing.faults result }
+
+        // It fails exactly where its number is listed, and else takes the whole piece.
+        ensures fails { IsErr result ↔ FailsNext self.old.failing }
+        ensures counts { self.new.failing ≡ failing_after (is_err result) self.old.failing }
+        ensures all { IfOk result (λ n. n ≡ length bytes.now) }
+        ensures kept { IfOk result (λ _. KeepsMore self.old.kept bytes.now self.new.kept) }
+        ensures untouched { OnErr result (self.new.kept ≡ self.old.kept) }
+    {
         if self.fails.next() {
             return Err(Failed);
         }
-        if self.bytes.extend_from_slice(bytes).is_err() {
-            self.is_whole = false;
-        }
+        self.kept.keep(bytes);
         Ok(bytes.len())
     }
 }

@@ -6,17 +6,22 @@ ghost use Rattle.io_ports.specs.Counts.{HasCause};
 
 use crate::source::Failed;
 
+/// Where bytes go to.
 pub trait Sink {
-    /// The bytes that were put, where they are told.
+    /// The bytes that were put so far, where they are told.
     ghost written: { Self → Option (List ℕ) };
 
-    /// How often it has failed.
+    /// How often it has failed: a count that never falls, and stays at 2 ^ 64 - 1.
     ghost faults: { Self → ℕ };
 
-    /// The object after a call is the one before it: a reference stays the same reference.
+    /// What each call leaves as it was, from the object before it to the one after it: a `&mut`
+    /// stays a reference to the same place. Anything, where the sink needs no such fact.
     ghost keeps: { Self → Self → Type 0 } = { λ _ _. ⊤ };
 
-    /// Takes the first bytes of the piece, and answers how many.
+    /// Takes the first bytes of the piece, and answers how many: some of a piece that isn't empty.
+    /// They stand behind what was written, unless the sink doesn't tell its content from then on.
+    ///
+    /// Failed only where the count of faults rose. What was written is then as it was.
     fn put(&mut self, bytes: &[u8]) -> Result<usize, Failed>
         ensures bound { IfOk result (λ n. n ≤ length bytes.now) }
         ensures some { IfOk result (λ n. 0 < length bytes.now → 0 < n) }
@@ -25,11 +30,14 @@ pub trait Sink {
         ensures keeps { keeps self.old self.new }
         ensures cause { HasCause (faults self.old) (faults self.new) result };
 
+    /// Without a call all is kept.
     ghost keeps_same: { (a : Self) → keeps a a };
 
+    /// What each of two calls keeps, both keep.
     ghost keeps_on: { (a b c : Self) → keeps a b → keeps b c → keeps a c };
 }
 
+// A sink that is lent is the same sink.
 impl<K: Sink> Sink for &mut K {
     ghost written = { λ k. K.written k.now };
 
@@ -46,7 +54,10 @@ impl<K: Sink> Sink for &mut K {
     }
 }
 
-/// Puts all the bytes. After a failure a prefix of them was written.
+/// Puts all the bytes, in their order.
+///
+/// Failed where a put failed. The bytes that the puts before it took, a prefix of all of them, were
+/// then written.
 pub fn put_all<K: Sink>(sink: &mut K, bytes: &[u8]) -> Result<(), Failed>
     ensures ok { OnOk result (Grows (K.written sink.old) bytes.now (K.written sink.new)) }
     ensures err { OnErr result (GrowsPart (K.written sink.old) bytes.now (K.written sink.new)) }

@@ -13,7 +13,7 @@ pub record Session : Type 0 where
   pub ended : Option Cause
   pub port : PortState
 
-pub record Desk : Type 0 where
+pub record DeskState : Type 0 where
   pub scene : Scene
   pub sessions : List Session
   pub counts : Counts
@@ -24,13 +24,13 @@ pub record GuestLoad : Type 0 where
 
 -- a state with all that came out on the way to it
 pub record StepOutcome : Type 0 where
-  pub desk : Desk
+  pub desk : DeskState
   pub posts : List Post
   pub inputs : List GuestInput
   pub readings : List GuestLoad
 
 -- nothing came out
-abbrev pub stays : Desk → StepOutcome
+abbrev pub stays : DeskState → StepOutcome
 stays desk = record { desk = desk; posts = []; inputs = []; readings = [] }
 
 -- what came out before, and then what comes out next
@@ -42,11 +42,11 @@ step_after before next = record {
   readings = before.readings ++ next.readings;
 }
 
-abbrev pub and_next : StepOutcome → (Desk → StepOutcome) → StepOutcome
+abbrev pub and_next : StepOutcome → (DeskState → StepOutcome) → StepOutcome
 and_next before step = step_after before (step before.desk)
 
 -- a scene that was outcome, in the desk around it
-abbrev pub on_desk : SceneOutcome → List GuestLoad → Desk → StepOutcome
+abbrev pub on_desk : SceneOutcome → List GuestLoad → DeskState → StepOutcome
 on_desk outcome readings desk = record {
   desk = record desk { scene = outcome.scene };
   posts = outcome.posts;
@@ -59,20 +59,20 @@ on_desk outcome readings desk = record {
 abbrev pub fresh : ℕ → Session
 fresh pages = record { greeted = false; rest = []; minor = 0; ended = None; port = zeros pages }
 
-abbrev pub opening : Setup → Desk
+abbrev pub opening : Setup → DeskState
 opening setup = record {
   scene = empty_scene;
   sessions = replicate (length setup.guests) (fresh setup.pages);
   counts = record { items = 0; messages = 0; glances = 0 };
 }
 
-abbrev pub session_of : ℕ → Desk → Session
+abbrev pub session_of : ℕ → DeskState → Session
 session_of guest desk = slice_index_or desk.sessions guest (fresh 0)
 
-abbrev pub with_session : ℕ → Session → Desk → Desk
+abbrev pub with_session : ℕ → Session → DeskState → DeskState
 with_session guest session desk = record desk { sessions = slice_set desk.sessions guest session }
 
-abbrev pub count_item : Desk → Desk
+abbrev pub count_item : DeskState → DeskState
 count_item desk = record desk { counts = record desk.counts { items = counted (desk.counts.items + 1) } }
 
 -- ---- one guest's part of what came out

@@ -1,0 +1,13 @@
+pub mod Config
+pub mod RecordGrammar
+pub mod OutputGrammar
+pub mod Readings
+pub mod FeedReadings
+pub mod DeskPosts
+pub mod FeedRuns
+pub mod Answers
+pub mod Writes
+pub mod PictureView
+pub mod DeskStands
+pub mod DeskValue
+pub mod ItemWrites

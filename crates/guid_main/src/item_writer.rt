@@ -1,0 +1,70 @@
+// Steps the desk by an item, and writes what the item gives.
+ghost use Rattle.std.specs.Prelude.{◌≡◌, ◌*◌, length, IfOk};
+ghost use Rattle.desk_laws.specs.Items.{FitsItem};
+ghost use Rattle.desk_laws.specs.Picture.{picture};
+ghost use Rattle.desk_laws.specs.State.{DeskState};
+ghost use Rattle.desk_laws.specs.declared.setup.Setup.{Setup as SetupValue};
+ghost use Rattle.guid_main.specs.DeskStands.{Stands, picture_of, pages_of, stepped_of};
+ghost use Rattle.guid_main.specs.ItemWrites.{StepWrites, guest_bytes_of, step_bytes};
+ghost use Rattle.guid_main.specs.OutputGrammar.{picture_head};
+
+use crate::desk::{Desk, Stepped};
+use crate::picture_writer::put_picture;
+use crate::post_writer::PostWriter;
+use crate::summary_writer::put_summary;
+use desk_laws::Item;
+use io_ports::{Failed, Sink};
+
+// Steps the desk, and writes what guests are told.
+fn step_desk<K: Sink>(
+    desk: &mut Desk,
+    item: &Item,
+    piece: &[u8],
+    out: &mut K,
+) -> Result<Stepped, Failed>
+    requires range { FitsItem 1 (pages_of desk.old) item.now (length piece.now) }
+    ensures writes { (setup : SetupValue) (state : DeskState) → Stands setup desk.old state →
+        StepWrites setup item.now piece.now state desk.old desk.new result (guest_bytes_of setup item.now piece.now state)
+        (K.written out.old) (K.written out.new) (K.faults out.old) (K.faults out.new) (K.keeps out.old out.new) }
+    ensures drawn { item.now ≡ Item.Snap → (setup : SetupValue) (state : DeskState) → Stands setup desk.old state →
+        (picture_of desk.new).pixels ≡ picture setup state.scene.rows state.scene.layers }
+    ensures width { (picture_of desk.new).width ≡ (picture_of desk.old).width }
+    ensures height { (picture_of desk.new).height ≡ (picture_of desk.old).height }
+    ensures answer { IfOk result (λ stepped. stepped ≡ stepped_of item.now) }
+{
+    let mut writer = PostWriter { out, failed: false };
+    let stepped = desk.step(item, piece, &mut writer);
+    if writer.failed {
+        Err(Failed)
+    } else {
+        Ok(stepped)
+    }
+}
+
+/// Steps the desk by an item, and writes what the item gives: what guests are told, the picture at
+/// Snap, the Summary at End. The head is that of a Picture record of the desktop's size, and the line
+/// is room for a row's bytes.
+pub fn write_item<K: Sink>(
+    desk: &mut Desk,
+    item: &Item,
+    piece: &[u8],
+    head: &[u8],
+    line: &mut [u8],
+    out: &mut K,
+) -> Result<(), Failed>
+    requires range { FitsItem 1 (pages_of desk.old) item.now (length piece.now) }
+    requires head { head.now ≡ picture_head (picture_of desk.old).width (picture_of desk.old).height }
+    requires line { length line.old ≡ 3 * (picture_of desk.old).width }
+    ensures writes { (setup : SetupValue) (state : DeskState) → Stands setup desk.old state →
+        StepWrites setup item.now piece.now state desk.old desk.new result (step_bytes (picture_of desk.new).painted setup item.now piece.now state)
+        (K.written out.old) (K.written out.new) (K.faults out.old) (K.faults out.new) (K.keeps out.old out.new) }
+    ensures width { (picture_of desk.new).width ≡ (picture_of desk.old).width }
+    ensures height { (picture_of desk.new).height ≡ (picture_of desk.old).height }
+{
+    match step_desk(desk, item, piece, out) {
+        Ok(Stepped::Going) => Ok(()),
+        Ok(Stepped::Snap) => put_picture(out, head, desk.picture(), line),
+        Ok(Stepped::Ended) => put_summary(out, &desk.summary()),
+        Err(e) => Err(e),
+    }
+}
