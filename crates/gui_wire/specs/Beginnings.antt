@@ -12,6 +12,7 @@ pub data Beginning : Type 0 where
   Need : (more : ℕ) → Beginning
   Bad : (len : ℕ) → Beginning
 
+-- the whole message of a body that was read, or one to be skipped
 abbrev pub whole_of : Option DaemonMessage → ℕ → ℕ → Beginning
 whole_of (Some message) window used = Whole window message used
 whole_of None window used = Skip used

@@ -13,8 +13,10 @@ pub record AreToldApart {M : Type 0} (spelling : ℕ → M → List ℕ) (Has : 
   pub differ : (v w : ℕ) (m n : M) → v < 2 ^ 32 → w < 2 ^ 32 → Has m → Has n → spelling v m ≡ spelling w n → (v ≡ w) × (m ≡ n)
   pub no_front : (v w : ℕ) (m n : M) → v < 2 ^ 32 → w < 2 ^ 32 → Has m → Has n → IsProperPrefix (spelling v m) (spelling w n) → ⊥
 
+-- the messages from an agent
 abbrev pub AgentSpellingsDiffer : Type 0
 AgentSpellingsDiffer = AreToldApart spelling HasSpelling
 
+-- the messages to an agent
 abbrev pub DaemonSpellingsDiffer : Type 0
 DaemonSpellingsDiffer = AreToldApart daemon_spelling HasDaemonSpelling
