@@ -30,7 +30,7 @@ on_side a n p = int_le a p && int_lt p (a +ℤ pos n)
 abbrev pub has : Rect → Point → Bool
 has r p = on_side r.x r.w p.x && on_side r.y r.h p.y
 
--- the rectangle moved out by n on each side
+-- the rectangle with a margin of n added on all four sides
 abbrev pub grown : Rect → ℕ → Rect
 grown r n = record { x = r.x -ℤ pos n; y = r.y -ℤ pos n; w = r.w + 2 * n; h = r.h + 2 * n }
 

@@ -80,7 +80,7 @@ pub fn area(r: Rect) -> u64
     u64::from(r.w) * u64::from(r.h)
 }
 
-/// The rectangle moved out by n pixels on each of its four sides.
+/// The rectangle with a margin of n pixels added on all four sides.
 pub fn grow(r: Rect, n: u32) -> Rect
     requires x_low { negsuc 32767 ≤ℤ r.x }
     requires x_high { r.x ≤ℤ pos 32767 }
@@ -105,7 +105,9 @@ pub fn meet(a: Rect, b: Rect) -> Option<Rect>
     requires a { IsFit a }
     requires b { IsFit b }
     ensures common { result ≡ common a b }
-    ensures points { MatchOption result ((p : Point) → (has a p && has b p) ≡ false) (λ r. (p : Point) → has r p ≡ (has a p && has b p)) }
+    ensures points { MatchOption result
+        ((p : Point) → (has a p && has b p) ≡ false)
+        (λ r. (p : Point) → has r p ≡ (has a p && has b p)) }
     ensures size { IfSome result (λ r. (0 < r.w) × (0 < r.h)) }
 {
     between(

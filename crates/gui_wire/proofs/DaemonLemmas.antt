@@ -1,21 +1,20 @@
 -- The messages to an agent: a spelling reads back, whatever follows it, and what reads is a spelling.
-use Rattle.std.proofs.Common.{◌≡◌, ℕ, zero, suc, ◌+◌, ◌-◌, ◌*◌, ◌<◌, ◌≤◌, ◌^◌, Bool, true, false, List, [], ◌∷◌, ◌++◌, length, drop, take, get_or, Option, Some, None, ℤ, refl, sym, ap, ◌∙◌, subst, arith, rules, lit<, IsTrue, length-append, length-drop, length-take, append_assoc, w32}
-use Rattle.std.specs.Prelude.{◌==◌, nat_le, nat_lt, if◌then◌else◌}
-use Rattle.std.specs.Int.{cast_signed, cast_unsigned}
+use Rattle.std.proofs.Common.{◌≡◌, ℕ, suc, ◌+◌, ◌-◌, ◌*◌, ◌<◌, ◌≤◌, ◌^◌, Bool, true, false, List, [], ◌∷◌, ◌++◌, length, drop, take, get_or, Option, Some, None, ℤ, refl, sym, ap, ◌∙◌, subst, arith, rules, lit<, IsTrue, length-append, length-drop, length-take, append_assoc, w32}
+use Rattle.std.specs.Prelude.{nat_lt, if◌then◌else◌}
+use Rattle.std.specs.Int.{cast_signed}
 use Rattle.std.specs.Int.RustNames.{FitsSigned}
 use Rattle.std.proofs.Math.Facts.{Fits-of_z, sfits_to_z}
 use Rattle.std.proofs.lemmas.Int.{of_z-to_z, to_z-of_z}
 use Rattle.std.proofs.lemmas.Bool.Decides.{nat_tests}
 use Rattle.std.proofs.Math.Seq.{take-add}
-use Rattle.std.proofs.lemmas.List.{take_at, take_rest, drop_at, take_all, drop-append-le, take-append-le, take-append-drop}
+use Rattle.std.proofs.lemmas.List.{take_at, take_rest}
 use Rattle.gui_wire.specs.declared.Header.{Header}
-use Rattle.gui_wire.specs.Words.{word, words, word_at, signed_at, unsigned}
-use Rattle.gui_wire.specs.AgentMessages.{AreWords}
-use Rattle.gui_wire.specs.DaemonMessages.{DaemonMessage, Key, Button, Motion, Crossing, Focus, Keymap, Close, ClipAsk, ClipGive, Configure, DumpAck, daemon_kind, daemon_body, daemon_spelling, DaemonLength, Any, Just, UpTo, daemon_length, fits_length, daemon_reading, HasDaemonSpelling, IsPlace}
-use Rattle.gui_wire.specs.Headers.{header_at, header_bytes}
-use Rattle.gui_wire.specs.Beginnings.{Beginning, Whole, Skip, Need, Bad, whole_of, beginning_of, beginning, IsInFront}
-use Rattle.gui_wire.proofs.WordLemmas.{AreBytes, AreBytes-drop, AreBytes-take, word_at-fits, numbers_from, words-numbers, words-front, AreWords-numbers, word_at-take}
-use Rattle.gui_wire.proofs.SpellingLemmas.{length-words, word_at-words, reads}
+use Rattle.gui_wire.specs.Words.{words, word_at, signed_at, unsigned}
+use Rattle.gui_wire.specs.DaemonMessages.{DaemonMessage, Key, Button, Motion, Crossing, Focus, Keymap, Close, ClipAsk, ClipGive, Configure, DumpAck, daemon_kind, daemon_body, daemon_spelling, Just, UpTo, daemon_length, fits_length, daemon_reading, HasDaemonSpelling, IsPlace}
+use Rattle.gui_wire.specs.Headers.{header_at}
+use Rattle.gui_wire.specs.Beginnings.{Beginning, Whole, Need, Bad, whole_of, beginning_of, beginning, IsInFront}
+use Rattle.gui_wire.proofs.WordLemmas.{AreBytes, AreBytes-drop, AreBytes-take, word_at-fits, numbers_from, words-numbers, words-front}
+use Rattle.gui_wire.proofs.SpellingLemmas.{word_at-words, reads}
 use Rattle.gui_wire.proofs.ReadingLemmas.{by_kind}
 
 -- ---- a spelling reads back

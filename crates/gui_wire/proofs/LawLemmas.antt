@@ -1,14 +1,14 @@
 -- Spellings can be told apart.
-use Rattle.std.proofs.Common.{◌≡◌, ℕ, ◌+◌, ◌<◌, ◌≤◌, ◌^◌, List, [], ◌∷◌, ◌++◌, length, take, drop, Option, Some, refl, sym, ap, ◌∙◌, arith, length-append, append_assoc, append-nil}
+use Rattle.std.proofs.Common.{◌≡◌, ℕ, ◌<◌, ◌^◌, List, [], ◌∷◌, ◌++◌, length, take, drop, Some, refl, sym, ap, ◌∙◌, append_assoc, append-nil}
 use Rattle.std.proofs.lemmas.List.{take_at, drop_at}
 use Rattle.gui_wire.specs.Words.{words}
 use Rattle.gui_wire.specs.AgentMessages.{AgentMessage, kind_of, body_of, spelling, reading, HasSpelling}
 use Rattle.gui_wire.specs.DaemonMessages.{DaemonMessage, daemon_spelling, HasDaemonSpelling}
-use Rattle.gui_wire.specs.Beginnings.{Beginning, Whole, beginning}
-use Rattle.gui_wire.specs.Laws.{IsProperPrefix, AreToldApart}
+use Rattle.gui_wire.specs.Beginnings.{Whole, beginning}
+use Rattle.gui_wire.specs.Laws.{AreToldApart}
 use Rattle.gui_wire.proofs.SpellingLemmas.{reading-body}
 use Rattle.gui_wire.proofs.ReadingLemmas.{words-cancel, kind-small, small-spelled}
-use Rattle.gui_wire.proofs.DaemonLemmas.{beginning-spelled, length-daemon_spelling}
+use Rattle.gui_wire.proofs.DaemonLemmas.{beginning-spelled}
 
 -- two spellings, each with something behind it
 record AreSame {M : Type 0} (v w : ℕ) (m n : M) (xs ys : List ℕ) : Type 0 where

@@ -1,5 +1,5 @@
 -- What bytes from the daemon begin with.
-use Rattle.std.specs.Prelude.{ℕ, ◌≡◌, ◌+◌, ◌-◌, Bool, true, false, List, ◌++◌, length, take, drop, Option, Some, None, if◌then◌else◌, nat_lt}
+use Rattle.std.specs.Prelude.{ℕ, ◌≡◌, ◌+◌, ◌-◌, List, length, take, drop, Option, Some, None, if◌then◌else◌, nat_lt}
 use Rattle.gui_wire.specs.declared.Header.{Header}
 use Rattle.gui_wire.specs.DaemonMessages.{DaemonMessage, daemon_length, fits_length, daemon_reading, daemon_spelling, HasDaemonSpelling}
 use Rattle.gui_wire.specs.Headers.{header_at}
@@ -12,7 +12,11 @@ pub data Beginning : Type 0 where
   Need : (more : ℕ) → Beginning
   Bad : (len : ℕ) → Beginning
 
+<<<<<<< HEAD
 -- a message that was read, or one to be skipped
+=======
+-- the whole message of a body that was read, or one to be skipped
+>>>>>>> 570a35ab66fc0b8194399586a74e315c264dc82d
 abbrev pub whole_of : Option DaemonMessage → ℕ → ℕ → Beginning
 whole_of (Some message) window used = Whole window message used
 whole_of None window used = Skip used

@@ -1,7 +1,7 @@
 -- Spellings can be told apart.
 use Rattle.std.specs.Prelude.{ℕ, ◌≡◌, ◌≢◌, ◌<◌, ◌^◌, List, [], ◌++◌}
-use Rattle.gui_wire.specs.AgentMessages.{AgentMessage, spelling, HasSpelling}
-use Rattle.gui_wire.specs.DaemonMessages.{DaemonMessage, daemon_spelling, HasDaemonSpelling}
+use Rattle.gui_wire.specs.AgentMessages.{spelling, HasSpelling}
+use Rattle.gui_wire.specs.DaemonMessages.{daemon_spelling, HasDaemonSpelling}
 
 -- the second list is the first one and something behind it
 abbrev pub IsProperPrefix : List ℕ → List ℕ → Type 0
@@ -13,10 +13,10 @@ pub record AreToldApart {M : Type 0} (spelling : ℕ → M → List ℕ) (Has : 
   pub differ : (v w : ℕ) (m n : M) → v < 2 ^ 32 → w < 2 ^ 32 → Has m → Has n → spelling v m ≡ spelling w n → (v ≡ w) × (m ≡ n)
   pub no_front : (v w : ℕ) (m n : M) → v < 2 ^ 32 → w < 2 ^ 32 → Has m → Has n → IsProperPrefix (spelling v m) (spelling w n) → ⊥
 
--- different messages from an agent have different spellings, and none begins another
+-- the messages from an agent
 abbrev pub AgentSpellingsDiffer : Type 0
 AgentSpellingsDiffer = AreToldApart spelling HasSpelling
 
--- different messages from the daemon have different spellings, and none begins another
+-- the messages to an agent
 abbrev pub DaemonSpellingsDiffer : Type 0
 DaemonSpellingsDiffer = AreToldApart daemon_spelling HasDaemonSpelling

@@ -8,15 +8,16 @@ use crate::head::header_of;
 use crate::words::{HEAD_LEN, signed_at, word_at};
 use crate::{DaemonMsg, ReadDaemon};
 
-/// What the bytes begin with. `Skip` exactly where a whole message has a type that is no message to an
-/// agent; `Bad` exactly where the type is one and the length doesn't fit it; `Need` exactly where the
-/// header, or the body of a type and length that aren't bad, isn't whole. What is answered borrows the
-/// bytes.
+/// What the bytes begin with: a message to an agent, with clipboard bytes lent from them; a whole
+/// message of another type, to be skipped; a message that isn't whole yet, or whose header isn't; or
+/// a header with a length that its type can't have, which is found as soon as the header is whole.
 pub fn read_daemon(bytes: &[u8]) -> ReadDaemon<'_>
     ensures reads { read_as result ≡ beginning bytes.now }
     ensures spelled { IsInFront (read_as result) bytes.now }
     // each spelling is read, whatever follows it
-    ensures known { (window : ℕ) (m : DaemonMessage) (rest : List ℕ) → window < 2 ^ 32 → HasDaemonSpelling m → bytes.now ≡ daemon_spelling window m ++ rest → read_as result ≡ Whole window m (length (daemon_spelling window m)) }
+    ensures known { (window : ℕ) (m : DaemonMessage) (rest : List ℕ) → window < 2 ^ 32 →
+        HasDaemonSpelling m → bytes.now ≡ daemon_spelling window m ++ rest →
+        read_as result ≡ Whole window m (length (daemon_spelling window m)) }
 {
     if bytes.len() < HEAD_LEN {
         return ReadDaemon::Need {
@@ -45,8 +46,8 @@ pub fn read_daemon(bytes: &[u8]) -> ReadDaemon<'_>
     }
 }
 
-// Whether the body of a message of this type may have this length; any, where it is no message to an
-// agent.
+// Whether the body of a message of this type may have this length; any, where it is no message to
+// an agent.
 fn fits_daemon(kind: u32, len: u32) -> bool
     ensures { result ≡ fits_length (daemon_length kind) len }
 {
@@ -62,7 +63,8 @@ fn fits_daemon(kind: u32, len: u32) -> bool
     }
 }
 
-// The message of a type whose body has a length that fits it, `None` where it is no message to an agent.
+// The message of a type whose body has a length that fits it, `None` where it is no message to an
+// agent.
 fn daemon_message_of(body: &[u8], kind: u32) -> Option<DaemonMsg<'_>>
     requires { IsTrue (fits_length (daemon_length kind) (length body.now)) }
     ensures { option_map daemon_message result ≡ daemon_reading kind body.now }

@@ -42,8 +42,8 @@ pub fn length_rule(kind: u32) -> LengthRule
     }
 }
 
-/// Whether a header may stand before a body. `Kind` where its type is unknown, `Length` where the
-/// type is known and the length doesn't fit it.
+/// Whether a header may stand before a body. The error is `Kind` with a type that isn't known, or
+/// `Length` with a length that a known type can't have.
 pub fn head_check(header: Header) -> Result<(), WireFault>
     ensures { result ≡ head_result header }
 {

@@ -112,17 +112,21 @@ fn message_of(body: &[u8], kind: u32) -> Option<AgentMsg<'_>>
     })
 }
 
-/// The message that a header and its body spell. What it answers borrows the body. `Kind` where the
-/// type is unknown, `Length` where the type is known and the length doesn't fit it, exactly as
-/// `head_check` answers.
+/// The message that a header and its body spell, with texts, bytes and references lent from the
+/// body. The header is refused as `head_check` refuses it: `Kind` for a type that isn't known,
+/// `Length` for a length that a known type can't have.
 pub fn body_of(body: &[u8], header: Header) -> Result<AgentMsg<'_>, WireFault>
     requires { length body.now ≡ header.len }
-    ensures checked { MatchResult result (λ _. head_result header ≡ Ok tt) (λ e. head_result header ≡ Err e) }
+    ensures checked { MatchResult result
+        (λ _. head_result header ≡ Ok tt) (λ e. head_result header ≡ Err e) }
     ensures reads { IfOk result (λ m. reading header.kind body.now ≡ Some (message m)) }
-    ensures spelled { IfOk result (λ m. spelling header.window (message m) ≡ header_bytes header ++ body.now) }
+    ensures spelled { IfOk result
+        (λ m. spelling header.window (message m) ≡ header_bytes header ++ body.now) }
     ensures lengths { IfOk result (λ m. HasSpelling (message m)) }
     // each message with a spelling is read out of it
-    ensures known { (m : AgentMessage) → HasSpelling m → spelling header.window m ≡ header_bytes header ++ body.now → IsOkAnd result (λ n. message n ≡ m) }
+    ensures known { (m : AgentMessage) → HasSpelling m →
+        spelling header.window m ≡ header_bytes header ++ body.now →
+        IsOkAnd result (λ n. message n ≡ m) }
 {
     head_check(header)?;
     message_of(body, header.kind).ok_or(WireFault::Kind(header.kind))

@@ -65,20 +65,24 @@ fn reads_what_an_agent_says(rt: HostRuntime) {
         head_check(Header { len: 23, ..header }),
         Err(WireFault::Length(23))
     );
-    let message = body_of(&CREATE[12..], header);
-    assert!(rt;
-        matches!(
-            message,
-            Ok(AgentMsg::Create {
-                x: 2,
-                y: 2,
-                width: 2,
-                height: 2,
-                parent: 0,
-                override_redirect: 0
-            })
-        )
-    );
+    match body_of(&CREATE[12..], header) {
+        Ok(
+            AgentMsg::Create {
+                x,
+                y,
+                width,
+                height,
+                parent,
+                override_redirect,
+            },
+        ) => {
+            assert_eq!(rt;
+                [x, y, width, height, parent, override_redirect],
+                [2, 2, 2, 2, 0, 0]
+            );
+        }
+        _ => panic!(rt; "no CREATE"),
+    }
     let refs = Refs::new(&MAP[..8]);
     assert_eq!(rt; (refs.count(), refs.at(0), refs.at(1)), (2, 132, 1));
 }

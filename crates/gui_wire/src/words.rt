@@ -76,7 +76,8 @@ pub fn spell_bytes(bytes: &[u8], out: &mut [u8]) -> usize
 pub fn spell_numbers(kind: u32, window: u32, numbers: &[u32], out: &mut [u8]) -> usize
     requires room { 12 + 4 * length numbers.now ≤ length out.old }
     requires small { length numbers.now ≤ 9 }
-    ensures out { out.new ≡ message_bytes kind window (words numbers.now) ++ drop (12 + 4 * length numbers.now) out.old }
+    ensures out { out.new ≡ message_bytes kind window (words numbers.now)
+        ++ drop (12 + 4 * length numbers.now) out.old }
     ensures len { result ≡ 12 + 4 * length numbers.now }
 {
     let len = 4 * numbers.len();
@@ -88,7 +89,8 @@ pub fn spell_numbers(kind: u32, window: u32, numbers: &[u32], out: &mut [u8]) ->
 pub fn spell_parts(kind: u32, window: u32, front: &[u8], back: &[u8], out: &mut [u8]) -> usize
     requires room { 12 + length front.now + length back.now ≤ length out.old }
     requires small { length front.now + length back.now < 2 ^ 32 }
-    ensures out { out.new ≡ message_bytes kind window (front.now ++ back.now) ++ drop (12 + length front.now + length back.now) out.old }
+    ensures out { out.new ≡ message_bytes kind window (front.now ++ back.now)
+        ++ drop (12 + length front.now + length back.now) out.old }
     ensures len { result ≡ 12 + length front.now + length back.now }
 {
     let len = front.len() + back.len();
@@ -105,7 +107,8 @@ pub fn spell_xconf(width: u32, height: u32, out: &mut [u8]) -> usize
     requires room { 16 ≤ length out.old }
     requires width { width ≤ 8192 }
     requires height { height ≤ 8192 }
-    ensures out { out.new ≡ words (width ∷ height ∷ 24 ∷ (width * height * 4 + 1023) / 1024 ∷ []) ++ drop 16 out.old }
+    ensures out { out.new ≡ words (width ∷ height ∷ 24 ∷ (width * height * 4 + 1023) / 1024 ∷ [])
+        ++ drop 16 out.old }
     ensures len { result ≡ 16 }
 {
     let mem = (width * height * 4).div_ceil(1024);

@@ -10,7 +10,8 @@ use crate::words::{HEAD_LEN, hint_numbers, spell_numbers, spell_parts, spell_wor
 /// would be more.
 pub fn agent_len(msg: &AgentMsg<'_>) -> usize
     ensures whole { result ≡ min (12 + length (body_of (message msg.now))) usize.MAX }
-    ensures len { KeepsLengths (message msg.now) → result ≡ 12 + length (body_of (message msg.now)) }
+    ensures len { KeepsLengths (message msg.now) →
+        result ≡ 12 + length (body_of (message msg.now)) }
 {
     match *msg {
         AgentMsg::Create { .. } => HEAD_LEN + 24,
@@ -37,7 +38,8 @@ pub fn agent_len(msg: &AgentMsg<'_>) -> usize
 pub fn spell_agent(window: u32, msg: &AgentMsg<'_>, out: &mut [u8]) -> usize
     requires lengths { KeepsLengths (message msg.now) }
     requires room { 12 + length (body_of (message msg.now)) ≤ length out.old }
-    ensures out { out.new ≡ spelling window (message msg.now) ++ drop (12 + length (body_of (message msg.now))) out.old }
+    ensures out { out.new ≡ spelling window (message msg.now)
+        ++ drop (12 + length (body_of (message msg.now))) out.old }
     ensures len { result ≡ 12 + length (body_of (message msg.now)) }
 {
     match *msg {

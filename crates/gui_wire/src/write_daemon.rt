@@ -10,7 +10,8 @@ use crate::words::{HEAD_LEN, key_bytes, spell_numbers, spell_parts};
 /// would be more.
 pub fn daemon_len(msg: &DaemonMsg<'_>) -> usize
     ensures whole { result ≡ min (12 + length (daemon_body (daemon_message msg.now))) usize.MAX }
-    ensures len { DaemonKeepsLengths (daemon_message msg.now) → result ≡ 12 + length (daemon_body (daemon_message msg.now)) }
+    ensures len { DaemonKeepsLengths (daemon_message msg.now) →
+        result ≡ 12 + length (daemon_body (daemon_message msg.now)) }
 {
     match *msg {
         DaemonMsg::Key { .. } | DaemonMsg::Button { .. } => HEAD_LEN + 20,
@@ -31,7 +32,8 @@ pub fn daemon_len(msg: &DaemonMsg<'_>) -> usize
 pub fn spell_daemon(window: u32, msg: &DaemonMsg<'_>, out: &mut [u8]) -> usize
     requires lengths { DaemonKeepsLengths (daemon_message msg.now) }
     requires room { 12 + length (daemon_body (daemon_message msg.now)) ≤ length out.old }
-    ensures out { out.new ≡ daemon_spelling window (daemon_message msg.now) ++ drop (12 + length (daemon_body (daemon_message msg.now))) out.old }
+    ensures out { out.new ≡ daemon_spelling window (daemon_message msg.now)
+        ++ drop (12 + length (daemon_body (daemon_message msg.now))) out.old }
     ensures len { result ≡ 12 + length (daemon_body (daemon_message msg.now)) }
 {
     match *msg {

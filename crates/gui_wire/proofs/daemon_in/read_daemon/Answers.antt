@@ -1,9 +1,5 @@
-use Rattle.std.proofs.Common.{◌≡◌, ℕ, ◌+◌, ◌-◌, ◌≤◌, List, length, take, drop, Option, Some, option_map, refl, sym, ap, ◌∙◌, arith, rules, length-take}
-use Rattle.std.proofs.lemmas.List.{take_rest}
-use Rattle.gui_wire.specs.declared.ReadDaemon.TheVariants as read
-use Rattle.gui_wire.specs.DaemonMessages.{DaemonMessage, daemon_reading}
-use Rattle.gui_wire.specs.Beginnings.{Beginning, Whole, Need, Bad, beginning}
-use Rattle.gui_wire.specs.Seen.{daemon_message, read_as}
+use Rattle.std.proofs.Common.{Some, sym, arith, rules}
+use Rattle.gui_wire.specs.Seen.{daemon_message}
 use Rattle.gui_wire.proofs.DaemonLemmas.{beginning-whole, in_front-whole, known-beginning, read-behind}
 use Rattle.gui_wire.proofs.daemon_in.read_daemon.Goals as goal
 
