@@ -12,11 +12,7 @@ pub data Beginning : Type 0 where
   Need : (more : ℕ) → Beginning
   Bad : (len : ℕ) → Beginning
 
-<<<<<<< HEAD
--- a message that was read, or one to be skipped
-=======
 -- the whole message of a body that was read, or one to be skipped
->>>>>>> 570a35ab66fc0b8194399586a74e315c264dc82d
 abbrev pub whole_of : Option DaemonMessage → ℕ → ℕ → Beginning
 whole_of (Some message) window used = Whole window message used
 whole_of None window used = Skip used
