@@ -19,12 +19,12 @@ use Rattle.guid_main.specs.declared.replay_feed.FeedState.TheVariants as states
 use Rattle.guid_main.specs.declared.replay_feed.ReplayFeed.{ReplayFeed}
 use Rattle.guid_main.specs.declared.status.Status.{Status}
 use Rattle.guid_main.specs.declared.status.Status.TheVariants as statuses
-use Rattle.guid_main.specs.Answers.{EndsLast, EndsNowhereElse, Ran, RanOver, SaysBy, Says, most_items, record_behind, status_of, after_config}
+use Rattle.guid_main.specs.Answers.{EndsLast, EndsNowhereElse, Ran, SaysBy, Says, most_items, record_behind, status_of, after_config}
 use Rattle.guid_main.specs.Config.{Fault, fault, config_of, config_len}
 use Rattle.guid_main.specs.FeedRuns.{FeedGives, Fed, NoEnd}
 use Rattle.guid_main.specs.OutputGrammar.{output, output_of}
 use Rattle.guid_main.specs.Readings.{Took, Spells, SpellsNothing, Reads}
-use Rattle.guid_main.specs.RecordGrammar.{Items, Ending, Ends, Faulty, Record, Run, BadStart, alone, with_front, items_from, started, record_of, whole}
+use Rattle.guid_main.specs.RecordGrammar.{Items, Ends, Faulty, Record, Run, BadStart, alone, with_front, items_from, started, record_of, whole}
 use Rattle.guid_main.proofs.FeedRuns.{fed_going, fed_end, fed_fault, fed_failed}
 
 -- where what was taken has one fact, it has another

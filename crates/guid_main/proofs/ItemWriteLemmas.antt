@@ -1,17 +1,16 @@
 -- What is written for an item, from what guests are told and what the program writes itself.
-use Rattle.std.proofs.Common.{◌≡◌, ℕ, ◌≤◌, List, [], ◌∷◌, ◌++◌, Option, Result, Ok, Err, Bool, true, false, inl, inr, refl, sym, ◌∙◌, ap, subst, arith}
+use Rattle.std.proofs.Common.{◌≡◌, ℕ, ◌≤◌, List, [], ◌++◌, Option, Result, Ok, Err, true, inl, inr, refl, sym, ◌∙◌, ap, subst, arith}
 use Rattle.std.specs.Prelude.{◌⊎◌, OnOk, OnErr}
 use Rattle.std.proofs.lemmas.List.{append-nil}
 use Rattle.desk_laws.specs.declared.setup.Setup.{Setup}
 use Rattle.desk_laws.specs.declared.item.Item.{Item}
 use Rattle.desk_laws.specs.declared.item.Item.TheVariants as items
 use Rattle.desk_laws.specs.Picture.{picture}
-use Rattle.desk_laws.specs.Scene.{Counts}
 use Rattle.desk_laws.specs.State.{DeskState, count_item}
 use Rattle.desk_laws.specs.Steps.{step}
 use Rattle.io_ports.specs.declared.source.Failed.{Failed}
 use Rattle.io_ports.specs.Content.{Grows, GrowsPart, IsPrefix}
-use Rattle.io_ports.specs.Counts.{Rose, HasCause}
+use Rattle.io_ports.specs.Counts.{HasCause}
 use Rattle.io_ports.proofs.GrowLemmas.{grows_on, part_behind, part_front, prefix_self, prefix_nil}
 use Rattle.guid_main.specs.declared.desk.Desk.{Desk}
 use Rattle.guid_main.specs.declared.desk.Summary.{Summary}

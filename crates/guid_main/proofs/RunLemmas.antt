@@ -1,5 +1,5 @@
 -- What was given and written so far, and what each outcome says then.
-use Rattle.std.proofs.Common.{◌≡◌, ℕ, zero, suc, ◌+◌, ◌<◌, ◌≤◌, List, [], ◌∷◌, ◌++◌, length, take, Option, Some, None, Ok, Err, true, false, Bool, inl, inr, refl, sym, ◌∙◌, ap, subst, arith, append_assoc, length-append}
+use Rattle.std.proofs.Common.{◌≡◌, ℕ, ◌+◌, ◌<◌, ◌≤◌, List, [], ◌∷◌, ◌++◌, length, take, Option, Some, None, Ok, Err, true, false, inl, inr, refl, sym, ◌∙◌, ap, subst, arith, append_assoc, length-append}
 use Rattle.std.specs.Prelude.{◌⊎◌}
 use Rattle.std.proofs.lemmas.Bool.{cases_Bool}
 use Rattle.std.proofs.lemmas.List.{append-nil}
@@ -20,7 +20,7 @@ use Rattle.io_ports.specs.declared.feed.FeedFault.TheVariants as feeds
 use Rattle.io_ports.proofs.GrowLemmas.{grows_none, grows_on, part_behind}
 use Rattle.guid_main.specs.declared.desk.Desk.{Desk}
 use Rattle.guid_main.specs.declared.outcome.Outcome.TheVariants as outcomes
-use Rattle.guid_main.specs.Answers.{Ran, RanOver, EndsLast, EndsNowhereElse, after_feed}
+use Rattle.guid_main.specs.Answers.{RanOver, EndsNowhereElse, after_feed}
 use Rattle.guid_main.specs.DeskStands.{Stands, picture_of}
 use Rattle.guid_main.specs.FeedRuns.{Fed, NoEnd}
 use Rattle.guid_main.specs.ItemWrites.{step_bytes}

@@ -1,5 +1,5 @@
 -- What a writer wrote, one post after the other.
-use Rattle.std.proofs.Common.{◌≡◌, ℕ, ◌≤◌, List, [], ◌∷◌, ◌++◌, Option, Bool, true, false, Result, Ok, Err, inl, inr, refl, sym, ◌∙◌, subst, arith}
+use Rattle.std.proofs.Common.{◌≡◌, ℕ, ◌≤◌, List, [], ◌∷◌, ◌++◌, Option, Bool, true, false, Ok, Err, inl, inr, refl, sym, ◌∙◌, subst, arith}
 use Rattle.desk_laws.specs.Scene.{Post}
 use Rattle.io_ports.specs.Content.{GrowsPart}
 use Rattle.io_ports.specs.Counts.{Rose, HasCause}

@@ -1,5 +1,5 @@
 -- What stepping a desk by an item wrote.
-use Rattle.std.specs.Prelude.{◌≡◌, ℕ, List, Option, Result, Ok, Err}
+use Rattle.std.specs.Prelude.{◌≡◌, ◌*◌, ℕ, List, Option, Result, Ok, Err}
 use Rattle.io_ports.specs.declared.source.Failed.{Failed}
 use Rattle.io_ports.specs.Content.{Grows, GrowsPart}
 use Rattle.io_ports.specs.Counts.{HasCause}
@@ -10,7 +10,7 @@ use Rattle.desk_laws.specs.Steps.{step}
 use Rattle.guid_main.specs.declared.desk.Desk.{Desk}
 use Rattle.guid_main.specs.DeskPosts.{guest_posts}
 use Rattle.guid_main.specs.DeskStands.{Stands, picture_of}
-use Rattle.guid_main.specs.OutputGrammar.{posts_bytes, painted_after}
+use Rattle.guid_main.specs.OutputGrammar.{posts_bytes, painted_after, picture_head}
 
 -- all the bytes were written, or a part of them where a write failed
 abbrev pub Wrote : {T : Type 0} → Result T Failed → List ℕ → Option (List ℕ) → Option (List ℕ) → Type 0
@@ -33,3 +33,12 @@ guest_bytes_of setup item piece state = posts_bytes 0 (guest_posts (step setup i
 -- the bytes of all that a step gives, where the picture's count stands at this number
 abbrev pub step_bytes : ℕ → Setup → Item → List ℕ → DeskState → List ℕ
 step_bytes painted setup item piece state = posts_bytes painted (step setup item piece state).posts
+
+-- the desk stands for a state of a desktop of which the head of Picture records and the room for a row's
+-- bytes have the size
+pub record Suits (desk : Desk) (head : List ℕ) (line : ℕ) : Type 0 where
+  pub setup : Setup
+  pub state : DeskState
+  pub stands : Stands setup desk state
+  pub head_is : head ≡ picture_head setup.width setup.height
+  pub line_is : line ≡ 3 * setup.width

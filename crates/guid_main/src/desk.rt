@@ -64,8 +64,6 @@ impl Desk {
         ensures posts { (setup : SetupValue) (state : DeskState) → Stands setup self.old state → Leads O.takes out.old (guest_posts (step setup item.now piece.now state).posts) out.new }
         ensures drawn { item.now ≡ Item.Snap → (setup : SetupValue) (state : DeskState) → Stands setup self.old state → (picture_of self.new).pixels ≡ picture setup state.scene.rows state.scene.layers }
         ensures painted { (setup : SetupValue) (state : DeskState) → Stands setup self.old state → (picture_of self.new).painted ≡ painted_after setup item.now (picture_of self.old).painted }
-        ensures width { (picture_of self.new).width ≡ (picture_of self.old).width }
-        ensures height { (picture_of self.new).height ≡ (picture_of self.old).height }
         ensures answer { result ≡ stepped_of item.now }
     {
         let _ = &self.pages;

@@ -5,7 +5,7 @@ ghost use Rattle.desk_laws.specs.Picture.{picture};
 ghost use Rattle.desk_laws.specs.State.{DeskState};
 ghost use Rattle.desk_laws.specs.declared.setup.Setup.{Setup as SetupValue};
 ghost use Rattle.guid_main.specs.DeskStands.{Stands, picture_of, pages_of, stepped_of};
-ghost use Rattle.guid_main.specs.ItemWrites.{StepWrites, guest_bytes_of, step_bytes};
+ghost use Rattle.guid_main.specs.ItemWrites.{StepWrites, Suits, guest_bytes_of, step_bytes};
 ghost use Rattle.guid_main.specs.OutputGrammar.{picture_head};
 
 use crate::desk::{Desk, Stepped};
@@ -28,8 +28,6 @@ fn step_desk<K: Sink>(
         (K.written out.old) (K.written out.new) (K.faults out.old) (K.faults out.new) (K.keeps out.old out.new) }
     ensures drawn { item.now ≡ Item.Snap → (setup : SetupValue) (state : DeskState) → Stands setup desk.old state →
         (picture_of desk.new).pixels ≡ picture setup state.scene.rows state.scene.layers }
-    ensures width { (picture_of desk.new).width ≡ (picture_of desk.old).width }
-    ensures height { (picture_of desk.new).height ≡ (picture_of desk.old).height }
     ensures answer { IfOk result (λ stepped. stepped ≡ stepped_of item.now) }
 {
     let mut writer = PostWriter { out, failed: false };
@@ -53,13 +51,10 @@ pub fn write_item<K: Sink>(
     out: &mut K,
 ) -> Result<(), Failed>
     requires range { FitsItem 1 (pages_of desk.old) item.now (length piece.now) }
-    requires head { head.now ≡ picture_head (picture_of desk.old).width (picture_of desk.old).height }
-    requires line { length line.old ≡ 3 * (picture_of desk.old).width }
-    ensures writes { (setup : SetupValue) (state : DeskState) → Stands setup desk.old state →
+    requires suits { Suits desk.old head.now (length line.old) }
+    ensures { (setup : SetupValue) (state : DeskState) → Stands setup desk.old state →
         StepWrites setup item.now piece.now state desk.old desk.new result (step_bytes (picture_of desk.new).painted setup item.now piece.now state)
         (K.written out.old) (K.written out.new) (K.faults out.old) (K.faults out.new) (K.keeps out.old out.new) }
-    ensures width { (picture_of desk.new).width ≡ (picture_of desk.old).width }
-    ensures height { (picture_of desk.new).height ≡ (picture_of desk.old).height }
 {
     match step_desk(desk, item, piece, out) {
         Ok(Stepped::Going) => Ok(()),

@@ -1,13 +1,12 @@
-use Rattle.std.proofs.Common.{◌≡◌, ◌≤◌, ℕ, Err, length, take, sym, ◌∙◌, ap, subst, arith, length-take}
+use Rattle.std.proofs.Common.{◌≡◌, ◌≤◌, Err, length, take, sym, ◌∙◌, ap, subst, arith, length-take}
 use Rattle.desk_laws.specs.State.{opening}
 use Rattle.desk_laws.specs.Steps.{run}
 use Rattle.guid_main.specs.declared.outcome.Outcome.{Outcome}
 use Rattle.guid_main.specs.Answers.{RanOver}
-use Rattle.guid_main.specs.DeskStands.{picture_of, pages_of}
-use Rattle.guid_main.specs.OutputGrammar.{picture_head}
+use Rattle.guid_main.specs.DeskStands.{pages_of}
 use Rattle.guid_main.proofs.WriterLemmas.{rose_before}
 use Rattle.guid_main.proofs.RunLemmas.{started, stepped, ended, cut_short, no_item, too_long, piece_short, end_alone, fits_desk, end_or, one_guest}
-use Rattle.guid_main.proofs.DeskFacts.{width_is, height_is, pages_is}
+use Rattle.guid_main.proofs.DeskFacts.{pages_is}
 use Rattle.guid_main.proofs.desk_run.run_items.Goals as goal
 
 pub loop-n-init : goal.loop-n-init
@@ -51,37 +50,38 @@ write_item-requires-clause-range g c =
     fits_desk _ _ (pages_of c.loop-n.desk) c.in-Ok.next.item c.in-Ok.next.len _ (c.loop-n.invariant.guests ∙ one_guest _ c.requires.fits.taken)
     (c.loop-n.invariant.pages ∙ sym (pages_is _ _ _ c.loop-n.invariant.so_far.stands)) long c.in-Ok.ensures.range
 
-pub write_item-requires-clause-head : goal.write_item-requires-clause-head
-write_item-requires-clause-head g c =
-    let stands = c.loop-n.invariant.so_far.stands in
-    c.requires.head ∙ ap (λ (w : ℕ). picture_head w c.args.setup.now.height) (sym (width_is _ _ _ stands)) ∙ ap (picture_head (picture_of c.loop-n.desk).width) (sym (height_is _ _ _ stands))
-
-pub write_item-requires-clause-line : goal.write_item-requires-clause-line
-write_item-requires-clause-line g c = omega (arith, c.loop-n.invariant.line, width_is _ _ _ c.loop-n.invariant.so_far.stands)
+pub write_item-requires-clause-suits : goal.write_item-requires-clause-suits
+write_item-requires-clause-suits g c = record {
+  setup = c.args.setup.now;
+  state = (run c.args.setup.now c.loop-n.invariant.so_far.given (opening c.args.setup.now)).desk;
+  stands = c.loop-n.invariant.so_far.stands;
+  head_is = c.requires.head;
+  line_is = c.loop-n.invariant.line;
+}
 
 pub returns-in-Err-write_item-clause-ran : goal.returns-in-Err-write_item-clause-ran
 returns-in-Err-write_item-clause-ran g c =
     let so_far = c.loop-n.invariant.so_far in
-    let wrote = c.in-Err-write_item.ensures.writes c.args.setup.now (run c.args.setup.now so_far.given (opening c.args.setup.now)).desk so_far.stands in
+    let wrote = c.in-Err-write_item.ensures c.args.setup.now (run c.args.setup.now so_far.given (opening c.args.setup.now)).desk so_far.stands in
     cut_short g.F.Feed.gives c.args.setup.now c.loop-n._n c.args.bounds.items _ _ _ _ c.write_item.new.desk _ _ _ _ so_far c.in-Ok.ensures.gives
     (end_or _ _ c.in-Ok.next.item c.in-Ok.next.len c.next.new.room c.in-Ok.ensures.range.in_range) (omega arith) wrote.painted wrote.wrote
 
 pub returns-in-Err-write_item-clause-keeps : goal.returns-in-Err-write_item-clause-keeps
 returns-in-Err-write_item-clause-keeps g c =
     let so_far = c.loop-n.invariant.so_far in
-    let wrote = c.in-Err-write_item.ensures.writes c.args.setup.now (run c.args.setup.now so_far.given (opening c.args.setup.now)).desk so_far.stands in
+    let wrote = c.in-Err-write_item.ensures c.args.setup.now (run c.args.setup.now so_far.given (opening c.args.setup.now)).desk so_far.stands in
     g.met.K.Sink.keeps_on _ _ _ c.loop-n.invariant.keeps wrote.keeps_sink
 
 pub returns-in-Err-write_item-clause-write_later : goal.returns-in-Err-write_item-clause-write_later
 returns-in-Err-write_item-clause-write_later g c =
     let so_far = c.loop-n.invariant.so_far in
-    let wrote = c.in-Err-write_item.ensures.writes c.args.setup.now (run c.args.setup.now so_far.given (opening c.args.setup.now)).desk so_far.stands in
+    let wrote = c.in-Err-write_item.ensures c.args.setup.now (run c.args.setup.now so_far.given (opening c.args.setup.now)).desk so_far.stands in
     omega (arith, c.loop-n.invariant.write_later, wrote.cause.later)
 
 pub returns-in-Err-write_item-clause-write : goal.returns-in-Err-write_item-clause-write
 returns-in-Err-write_item-clause-write g c = λ is.
     let so_far = c.loop-n.invariant.so_far in
-    let wrote = c.in-Err-write_item.ensures.writes c.args.setup.now (run c.args.setup.now so_far.given (opening c.args.setup.now)).desk so_far.stands in
+    let wrote = c.in-Err-write_item.ensures c.args.setup.now (run c.args.setup.now so_far.given (opening c.args.setup.now)).desk so_far.stands in
     rose_before _ _ _ c.loop-n.invariant.write_later wrote.cause.failed
 
 pub returns-in-Err-write_item-clause-read_later : goal.returns-in-Err-write_item-clause-read_later
@@ -90,14 +90,14 @@ returns-in-Err-write_item-clause-read_later g c = omega (arith, c.loop-n.invaria
 pub returns-then-is_end-clause-ran : goal.returns-then-is_end-clause-ran
 returns-then-is_end-clause-ran g c =
     let so_far = c.loop-n.invariant.so_far in
-    let wrote = c.in-Ok-write_item.ensures.writes c.args.setup.now (run c.args.setup.now so_far.given (opening c.args.setup.now)).desk so_far.stands in
+    let wrote = c.in-Ok-write_item.ensures c.args.setup.now (run c.args.setup.now so_far.given (opening c.args.setup.now)).desk so_far.stands in
     ended g.F.Feed.gives c.args.setup.now c.loop-n._n c.args.bounds.items _ _ _ _ c.write_item.new.desk _ _ _ _ so_far c.in-Ok.ensures.gives
     (end_alone _ _ c.in-Ok.next.item c.in-Ok.next.len c.next.new.room c.in-Ok.ensures.range.in_range (sym c.is_end.ensures ∙ c.if-is_end.true)) (omega arith) wrote.painted wrote.wrote
 
 pub returns-then-is_end-clause-keeps : goal.returns-then-is_end-clause-keeps
 returns-then-is_end-clause-keeps g c =
     let so_far = c.loop-n.invariant.so_far in
-    let wrote = c.in-Ok-write_item.ensures.writes c.args.setup.now (run c.args.setup.now so_far.given (opening c.args.setup.now)).desk so_far.stands in
+    let wrote = c.in-Ok-write_item.ensures c.args.setup.now (run c.args.setup.now so_far.given (opening c.args.setup.now)).desk so_far.stands in
     g.met.K.Sink.keeps_on _ _ _ c.loop-n.invariant.keeps wrote.keeps_sink
 
 pub returns-then-is_end-clause-read_later : goal.returns-then-is_end-clause-read_later
@@ -106,13 +106,13 @@ returns-then-is_end-clause-read_later g c = omega (arith, c.loop-n.invariant.rea
 pub returns-then-is_end-clause-write_later : goal.returns-then-is_end-clause-write_later
 returns-then-is_end-clause-write_later g c =
     let so_far = c.loop-n.invariant.so_far in
-    let wrote = c.in-Ok-write_item.ensures.writes c.args.setup.now (run c.args.setup.now so_far.given (opening c.args.setup.now)).desk so_far.stands in
+    let wrote = c.in-Ok-write_item.ensures c.args.setup.now (run c.args.setup.now so_far.given (opening c.args.setup.now)).desk so_far.stands in
     omega (arith, c.loop-n.invariant.write_later, wrote.cause.later)
 
 pub loop-n-preserved : goal.loop-n-preserved
 loop-n-preserved g c =
     let so_far = c.loop-n.invariant.so_far in
-    let wrote = c.in-Ok-write_item.ensures.writes c.args.setup.now (run c.args.setup.now so_far.given (opening c.args.setup.now)).desk so_far.stands in
+    let wrote = c.in-Ok-write_item.ensures c.args.setup.now (run c.args.setup.now so_far.given (opening c.args.setup.now)).desk so_far.stands in
     record {
       so_far = stepped g.F.Feed.gives c.args.setup.now c.loop-n._n _ _ _ _ _ _ _ _ _ _ so_far c.in-Ok.ensures.gives (sym c.is_end.ensures ∙ c.if-is_end.false) wrote.stands wrote.painted wrote.wrote;
       line = omega (arith, c.loop-n.invariant.line);
