@@ -4,6 +4,7 @@ pub mod Stage
 pub mod Items
 pub mod Rules
 pub mod Stream
+pub mod Cutting
 pub mod Rows
 pub mod Frames
 pub mod Ranges

@@ -68,18 +68,22 @@ pub record Cut : Type 0 where
 abbrev pub unit_and : StreamUnit → Cut → Cut
 unit_and unit cut = record { units = unit ∷ cut.units; rest = cut.rest }
 
--- at most n units, one after the other
-abbrev pub cut_within : ℕ → Bool → List ℕ → Cut
-cut_within zero greeted bytes = record { units = []; rest = bytes }
-cut_within (suc n) greeted bytes = elim (front greeted bytes) [
+-- at most n units, one after the other, where headers have these faults
+abbrev pub cut_within : (Header → Option Cause) → ℕ → Bool → List ℕ → Cut
+cut_within fault_of zero greeted bytes = record { units = []; rest = bytes }
+cut_within fault_of (suc n) greeted bytes = elim (front_by fault_of greeted bytes) [
   | Wait ↦ record { units = []; rest = bytes }
   | Fault cause ↦ record { units = Stop cause ∷ []; rest = [] }
-  | Takes unit behind ↦ unit_and unit (cut_within n true behind)
+  | Takes unit behind ↦ unit_and unit (cut_within fault_of n true behind)
 ]
 
--- all units: each takes at least one byte
+-- all units, where headers have these faults: each takes at least one byte
+abbrev pub cut_by : (Header → Option Cause) → Bool → List ℕ → Cut
+cut_by fault_of greeted bytes = cut_within fault_of (length bytes) greeted bytes
+
+-- all units
 abbrev pub cut : Bool → List ℕ → Cut
-cut greeted bytes = cut_within (length bytes) greeted bytes
+cut greeted bytes = cut_by head_fault greeted bytes
 
 -- whether a guest is greeted once these units were taken
 abbrev pub is_greeting : StreamUnit → Bool

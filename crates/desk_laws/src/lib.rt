@@ -8,6 +8,7 @@
 mod cause;
 mod input;
 mod item;
+mod law;
 mod row_id;
 mod rules;
 mod setup;
@@ -16,6 +17,7 @@ mod worked;
 pub use cause::Cause;
 pub use input::GIn;
 pub use item::Item;
+pub use law::law_of_cutting;
 pub use row_id::RowId;
 pub use setup::{GuestSetup, Guests, Name, Setup};
 pub use worked::worked_rows;
