@@ -16,10 +16,15 @@ taken_by border window row =
 abbrev pub taken_besides : ℕ → ℕ → List Row → ℕ
 taken_besides border window own = sum_by (taken_by border window) own
 
-abbrev pub is_granted : Sizes → Bool → Rect → ℕ → Bool
-is_granted sizes asked place taken =
-    (grants_override && asked && (nat_le (place.w + 2 * sizes.border) sizes.width && nat_le (place.h + 2 * sizes.border) sizes.height))
+-- whether a request is granted, where requests may be granted: it was asked, the window fits the desktop with
+-- its borders, and the guest's override windows take no more than their percent of the desktop
+abbrev pub is_granted_by : Bool → Sizes → Bool → Rect → ℕ → Bool
+is_granted_by grants sizes asked place taken =
+    (grants && asked && (nat_le (place.w + 2 * sizes.border) sizes.width && nat_le (place.h + 2 * sizes.border) sizes.height))
     && nat_le (100 * (taken + area (grown place sizes.border))) (sizes.percent * sizes.width * sizes.height)
+
+abbrev pub is_granted : Sizes → Bool → Rect → ℕ → Bool
+is_granted = is_granted_by grants_override
 
 -- a side that begins at z moved by the least amount that puts it, with its borders, from 0 up to the limit
 abbrev pub moved_inside : ℤ → ℕ → ℕ → ℕ → ℤ
@@ -29,10 +34,11 @@ pub record Placed : Type 0 where
   pub rect : Rect
   pub over : Bool
 
--- the override rule
-abbrev pub effective : Sizes → Bool → Rect → ℕ → Placed
-effective sizes asked place taken =
-    if is_granted sizes asked place taken
+-- the override rule, where requests may be granted: a granted window is moved into the desktop and is in the
+-- override layer, another one stays where it is and is in the normal layer
+abbrev pub effective_by : Bool → Sizes → Bool → Rect → ℕ → Placed
+effective_by grants sizes asked place taken =
+    if is_granted_by grants sizes asked place taken
     then record {
       rect = record {
         x = moved_inside place.x place.w sizes.border sizes.width;
@@ -43,3 +49,7 @@ effective sizes asked place taken =
       over = true;
     }
     else record { rect = place; over = false }
+
+-- the override rule
+abbrev pub effective : Sizes → Bool → Rect → ℕ → Placed
+effective = effective_by grants_override
