@@ -11,6 +11,7 @@ pub mod Ranges
 pub mod Override
 pub mod Tiles
 pub mod Effects
+pub mod Checks
 pub mod Grants
 pub mod Layers
 pub mod Picture

@@ -6,6 +6,8 @@
 #![tactic(auto)]
 
 mod cause;
+mod checks;
+mod ids;
 mod input;
 mod item;
 mod law;
@@ -15,6 +17,8 @@ mod setup;
 mod worked;
 
 pub use cause::Cause;
+pub use checks::law_first_cause;
+pub use ids::Ids;
 pub use input::GIn;
 pub use item::Item;
 pub use law::law_of_cutting;
