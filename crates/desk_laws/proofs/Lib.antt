@@ -1,3 +1,10 @@
 pub mod GridLemmas
 pub mod Cutting
 pub mod CheckLemmas
+pub mod CuttingLemmas
+pub mod LayerLemmas
+pub mod PaintLemmas
+pub mod RowLemmas
+pub mod RuleLemmas
+pub mod UnitLemmas
+pub mod VerdictLemmas

@@ -88,6 +88,12 @@ abbrev pub bad_ref : ℕ → List ℕ → Option Cause
 bad_ref pages [] = None
 bad_ref pages (ref ∷ refs) = if nat_lt ref pages then bad_ref pages refs else Some (RefRange ref pages)
 
+-- whether a CREATE is accepted among its guest's rows
+abbrev pub admits : ℕ → ℕ → ℕ → List Row → Bool
+admits window width height own =
+    (not (window == 0) && (nat_lt width (2 ^ 31) && nat_lt height (2 ^ 31)))
+    && (not (is_some (row_with window own)) && nat_lt (length own) 1024)
+
 abbrev pub refs_of : Option DumpOf → ℕ
 refs_of None = 0
 refs_of (Some dump) = length dump.refs
@@ -227,10 +233,14 @@ created guest window place parent asked = record {
   contents = replicate (place.w * place.h) None;
 }
 
--- MAP of a row, by the override rule
+-- a row moved by the override rule, with the size that it has
+abbrev pub moved_by : Placed → Row → Row
+moved_by placed row = record row { place = placed.rect; over = placed.over }
+
+-- MAP of a row, by the override rule, which never changes its size
 abbrev pub mapped_row : Sizes → List Row → Bool → ℕ → Row → Row
 mapped_row sizes own asked transient row =
-    placed_by (effective sizes asked row.place (taken_besides sizes.border row.window own))
+    moved_by (effective sizes asked row.place (taken_besides sizes.border row.window own))
     (record row { mapped = true; asked = asked; transient = transient })
 
 -- the answer to MAP: the place, where it changed
