@@ -4,3 +4,4 @@ pub mod OutputGrammar
 pub mod Readings
 pub mod FeedReadings
 pub mod DeskPosts
+pub mod PictureView

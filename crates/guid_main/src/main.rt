@@ -2,6 +2,7 @@
 #![tactic(auto)]
 
 mod config;
+mod picture;
 mod replay_feed;
 
 fn main(_rt: HostRuntime) {}
