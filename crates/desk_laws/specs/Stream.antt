@@ -4,6 +4,7 @@ use Rattle.gui_wire.specs.declared.Header.{Header}
 use Rattle.gui_wire.specs.declared.LengthRule.{LengthRule}
 use Rattle.gui_wire.specs.declared.LengthRule.TheVariants.{Unknown, Exactly, Clip, Dump}
 use Rattle.gui_wire.specs.AgentMessages.{rule_of, fits_rule}
+use Rattle.gui_wire.specs.Headers.{header_at}
 use Rattle.gui_wire.specs.Words.{word_at}
 use Rattle.desk_laws.specs.declared.cause.Cause.{Cause}
 use Rattle.desk_laws.specs.Stage.{takes_type, told_cause}
@@ -20,10 +21,6 @@ pub data Front : Type 0 where
   Wait : Front
   Fault : Cause → Front
   Takes : StreamUnit → List ℕ → Front
-
--- the header that 12 bytes spell
-abbrev pub header_at : List ℕ → Header
-header_at bytes = record { kind = word_at 0 bytes; window = word_at 1 bytes; len = word_at 2 bytes }
 
 -- the fault of a header alone, by the rule of its type
 abbrev pub fault_by : LengthRule → Header → Option Cause
