@@ -1,1 +1,3 @@
 pub mod GridLemmas
+pub mod RowLemmas
+pub mod LayerLemmas

@@ -227,10 +227,14 @@ created guest window place parent asked = record {
   contents = replicate (place.w * place.h) None;
 }
 
--- MAP of a row, by the override rule
+-- a row moved by the override rule, with the size that it has
+abbrev pub moved_by : Placed → Row → Row
+moved_by placed row = record row { place = placed.rect; over = placed.over }
+
+-- MAP of a row, by the override rule, which never changes its size
 abbrev pub mapped_row : Sizes → List Row → Bool → ℕ → Row → Row
 mapped_row sizes own asked transient row =
-    placed_by (effective sizes asked row.place (taken_besides sizes.border row.window own))
+    moved_by (effective sizes asked row.place (taken_besides sizes.border row.window own))
     (record row { mapped = true; asked = asked; transient = transient })
 
 -- the answer to MAP: the place, where it changed
