@@ -1,3 +1,6 @@
 pub mod GridLemmas
 pub mod RowLemmas
 pub mod LayerLemmas
+pub mod CuttingLemmas
+pub mod UnitLemmas
+pub mod PaintLemmas

@@ -1,1 +1,3 @@
 pub mod PictureLemmas
+pub mod WindowLemmas
+pub mod DrawLemmas

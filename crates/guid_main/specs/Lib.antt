@@ -5,3 +5,4 @@ pub mod Readings
 pub mod FeedReadings
 pub mod DeskPosts
 pub mod PictureView
+pub mod WindowsView

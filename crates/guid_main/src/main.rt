@@ -4,5 +4,6 @@
 mod config;
 mod picture;
 mod replay_feed;
+mod windows;
 
 fn main(_rt: HostRuntime) {}
