@@ -8,7 +8,7 @@ use Rattle.std.proofs.lemmas.List.Folds.{list_any-append}
 use Rattle.std.proofs.lemmas.Bool.{or_left, or_right, or_cases}
 use Rattle.desk_laws.specs.declared.row_id.RowId.{RowId}
 use Rattle.desk_laws.specs.Rows.{Row, id_of, same_row}
-use Rattle.desk_laws.specs.Layers.{Layers, is_in, layer_of, staying, coming}
+use Rattle.desk_laws.specs.Layers.{Layers, is_in, HaveSame, layer_of, staying, coming}
 use Rattle.desk_laws.proofs.RowLemmas.{is_in-members}
 
 pub filter-all : {X : Type 0} (p : X → Bool) (xs : List X) → All (λ x. p x ≡ true) xs → filter p xs ≡ xs
@@ -22,10 +22,6 @@ filter-none p [] h = refl
 filter-none p (x ∷ xs) h =
     ap (λ b. if b then x ∷ filter p xs else filter p xs) (All-head (λ y. p y ≡ false) x xs h)
     ∙ filter-none p xs (All-tail (λ y. p y ≡ false) x xs h)
-
--- two lists of ids have the same members
-abbrev pub HaveSame : List RowId → List RowId → Type 0
-HaveSame xs ys = (id : RowId) → is_in xs id ≡ is_in ys id
 
 -- the members of a list that are all in another
 are-in : (xs ys zs : List RowId) → ((id : RowId) → is_in xs id ≡ true → is_in ys id ≡ true) → All (λ id. is_in xs id ≡ true) zs → All (λ id. is_in ys id ≡ true) zs

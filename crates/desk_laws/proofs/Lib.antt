@@ -4,3 +4,4 @@ pub mod LayerLemmas
 pub mod CuttingLemmas
 pub mod UnitLemmas
 pub mod PaintLemmas
+pub mod VerdictLemmas

@@ -9,7 +9,7 @@ use Rattle.std.proofs.lemmas.Bool.{and_parts, or_parts, or_cases, not-true, or_f
 use Rattle.std.proofs.lemmas.Bool.Decides.{nat_tests}
 use Rattle.desk_laws.specs.declared.row_id.RowId.{RowId}
 use Rattle.desk_laws.specs.Rows.{Row, id_of, same_row, is_row, mine, row_with}
-use Rattle.desk_laws.specs.Layers.{is_in}
+use Rattle.desk_laws.specs.Layers.{is_in, are_apart}
 use Rattle.desk_laws.specs.Effects.{replaced_in, of_guest}
 
 -- ---- ids
@@ -30,11 +30,6 @@ is_in-members (id ∷ ids) =
     or_right' : (x y : Bool) → y ≡ true → (x || y) ≡ true
     or_right' true y e = refl
     or_right' false y e = e
-
--- no id stands in the list twice
-abbrev pub are_apart : List RowId → Bool
-are_apart [] = true
-are_apart (id ∷ ids) = not (is_in ids id) && are_apart ids
 
 -- where no id stands twice, an id stands neither before nor behind its place
 pub apart-around : (before after : List RowId) (id : RowId) → are_apart (before ++ id ∷ after) ≡ true

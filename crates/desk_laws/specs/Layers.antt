@@ -1,5 +1,5 @@
 -- The stack of the mapped rows, and the focus list.
-use Rattle.std.specs.Prelude.{ℕ, Bool, true, false, ◌&&◌, not, List, [], ◌∷◌, ◌++◌, map, filter, filter_map, Option, Some, None, if◌then◌else◌}
+use Rattle.std.specs.Prelude.{◌≡◌, ℕ, Bool, true, false, ◌&&◌, not, List, [], ◌∷◌, ◌++◌, map, filter, filter_map, Option, Some, None, if◌then◌else◌}
 use Rattle.std.specs.List.{list_any}
 use Rattle.gui_num.specs.declared.Point.{Point}
 use Rattle.gui_num.specs.Rects.{has}
@@ -18,6 +18,15 @@ no_layers = record { normal = []; over = []; focus = [] }
 -- whether an id stands in a list
 abbrev pub is_in : List RowId → RowId → Bool
 is_in ids id = list_any (same_row id) ids
+
+-- no id stands in the list twice
+abbrev pub are_apart : List RowId → Bool
+are_apart [] = true
+are_apart (id ∷ ids) = not (is_in ids id) && are_apart ids
+
+-- two lists of ids have the same members
+abbrev pub HaveSame : List RowId → List RowId → Type 0
+HaveSame xs ys = (id : RowId) → is_in xs id ≡ is_in ys id
 
 abbrev pub without : RowId → List RowId → List RowId
 without id ids = filter (λ other. not (same_row id other)) ids

@@ -1,3 +1,5 @@
 pub mod PictureLemmas
 pub mod WindowLemmas
 pub mod DrawLemmas
+pub mod ChangeLemmas
+pub mod StandLemmas

@@ -6,3 +6,4 @@ pub mod FeedReadings
 pub mod DeskPosts
 pub mod PictureView
 pub mod WindowsView
+pub mod DeskStands

@@ -2,6 +2,7 @@
 #![tactic(auto)]
 
 mod config;
+mod desk;
 mod picture;
 mod replay_feed;
 mod windows;
