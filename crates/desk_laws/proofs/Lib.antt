@@ -5,3 +5,4 @@ pub mod CuttingLemmas
 pub mod UnitLemmas
 pub mod PaintLemmas
 pub mod VerdictLemmas
+pub mod RuleLemmas

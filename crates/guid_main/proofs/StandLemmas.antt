@@ -1,7 +1,8 @@
 -- How a desk keeps standing for a state, unit by unit.
-use Rattle.std.proofs.Common.{◌≡◌, ℕ, zero, suc, ◌+◌, ◌-◌, ◌<◌, ◌≤◌, ◌^◌, min, Bool, true, false, ◌&&◌, ◌||◌, not, ◌==◌, List, [], ◌∷◌, ◌++◌, length, get_or, set, map, Option, Some, None, is_some, refl, sym, ◌∙◌, ap, subst, arith, length-set}
+use Rattle.std.proofs.Common.{◌≡◌, ℕ, zero, suc, ◌+◌, ◌-◌, ◌<◌, ◌≤◌, ◌^◌, min, Bool, true, false, ◌&&◌, ◌||◌, not, ◌==◌, List, [], ◌∷◌, ◌++◌, length, get_or, set, map, Option, Some, None, is_some, replicate, refl, sym, ◌∙◌, ap, subst, arith, length-set}
 use Rattle.std.specs.Prelude.{filter, if◌then◌else◌}
 use Rattle.std.proofs.lemmas.List.{append-nil, length-replicate}
+use Rattle.gui_wire.specs.declared.Header.{Header}
 use Rattle.desk_laws.specs.declared.cause.Cause.{Cause}
 use Rattle.desk_laws.specs.declared.setup.Setup.{Setup}
 use Rattle.desk_laws.specs.Sizes.{Sizes, sizes_of}
@@ -61,4 +62,167 @@ ends-stands setup rest desk state input cause stands =
       messages = stands.messages;
       glances = stands.glances;
       counted = stands.counted;
+    }
+
+counted-more : (n : ℕ) → counted (n + 1) ≤ 2 ^ 64 - 1
+counted-more n = omega arith
+
+-- the lists after a change
+normal-after : (setup : Setup) (rest : List ℕ) (desk : Desk) (state : DeskState) (change : Change) (new : WindowsView) → StandsWith setup rest desk state → Changes change desk.windows new
+    → staying (layer_of false (changed 0 change state.scene.rows)) state.scene.layers.normal ++ coming (layer_of false (changed 0 change state.scene.rows)) state.scene.layers.normal ≡ map id_in new.stack
+normal-after setup rest desk state change new stands changes =
+    ap (λ rs. staying (layer_of false rs) state.scene.layers.normal ++ coming (layer_of false rs) state.scene.layers.normal) (ap (changed 0 change) stands.rows ∙ changes.rows)
+    ∙ ap (λ ids. staying (layer_of false (map row_of new.table)) ids ++ coming (layer_of false (map row_of new.table)) ids) stands.normal ∙ changes.normal
+
+-- a desk that took one message
+abbrev pub message_taken : WindowsView → Desk → Desk
+message_taken new desk = record desk { windows = new; messages = counted (desk.messages + 1) }
+
+pub goes-stands : (setup : Setup) (rest : List ℕ) (desk : Desk) (state : DeskState) (header : Header) (body : List ℕ) (change : Change) (answers : List (List ℕ)) (new : WindowsView)
+    → StandsWith setup rest desk state → Changes change desk.windows new
+    → StandsWith setup rest (message_taken new desk) (went setup 0 (Whole header body) (effect_of 0 state (Goes change answers)) state).desk
+goes-stands setup rest desk state header body change answers new stands changes =
+    let session : Session = record (session_of 0 state) { greeted = false || (session_of 0 state).greeted } in
+    let put : session_of 0 (with_session 0 session state) ≡ session = session-put 0 session state (there setup rest desk state stands) in
+    let rows : changed 0 change state.scene.rows ≡ map row_of new.table = ap (changed 0 change) stands.rows ∙ changes.rows in
+    record {
+      numbers = record {
+        width = stands.numbers.width; height = stands.numbers.height; border = stands.numbers.border; pages = stands.numbers.pages;
+        background = stands.numbers.background; label = stands.numbers.label; wide = stands.numbers.wide; high = stands.numbers.high; narrow = stands.numbers.narrow;
+      };
+      rows = rows;
+      normal = normal-after setup rest desk state change new stands changes;
+      over = over-empty new.table (changed 0 change state.scene.rows) state.scene.layers.over rows stands.over;
+      sound = changes.sound;
+      one = length-set state.sessions 0 session ∙ stands.one;
+      greeted = ap (λ (s : Session). s.greeted) put ∙ stands.greeted;
+      ended = ap (λ (s : Session). is_some s.ended) put ∙ stands.ended;
+      left = ap (λ (s : Session). s.rest) put ∙ stands.left;
+      items = stands.items;
+      messages = ap (λ n. counted (n + 1)) stands.messages;
+      glances = ap (λ n. counted (n + 0)) stands.glances;
+      counted = counted-more desk.messages;
+    }
+
+-- a desk that greeted its guest
+abbrev pub greeted_desk : Desk → Desk
+greeted_desk desk = record desk { greeted = true }
+
+pub greets-stands : (setup : Setup) (rest : List ℕ) (desk : Desk) (state : DeskState) (word minor : ℕ) (answers : List (List ℕ))
+    → StandsWith setup rest desk state
+    → StandsWith setup rest (greeted_desk desk) (went setup 0 (Word word) (effect_of 0 state (Greets minor answers)) state).desk
+greets-stands setup rest desk state word minor answers stands =
+    let session : Session = record (session_of 0 state) { greeted = true; minor = minor } in
+    let put : session_of 0 (with_session 0 session state) ≡ session = session-put 0 session state (there setup rest desk state stands) in
+    let changes = changes-same desk.windows stands.sound in
+    let kept : counted (desk.messages + 0) ≡ desk.messages = omega (arith, stands.counted) in
+    record {
+      numbers = record {
+        width = stands.numbers.width; height = stands.numbers.height; border = stands.numbers.border; pages = stands.numbers.pages;
+        background = stands.numbers.background; label = stands.numbers.label; wide = stands.numbers.wide; high = stands.numbers.high; narrow = stands.numbers.narrow;
+      };
+      rows = stands.rows;
+      normal = normal-after setup rest desk state Same desk.windows stands changes;
+      over = over-empty desk.windows.table state.scene.rows state.scene.layers.over stands.rows stands.over;
+      sound = stands.sound;
+      one = length-set state.sessions 0 session ∙ stands.one;
+      greeted = ap (λ (s : Session). s.greeted) put;
+      ended = ap (λ (s : Session). is_some s.ended) put ∙ stands.ended;
+      left = ap (λ (s : Session). s.rest) put ∙ stands.left;
+      items = stands.items;
+      messages = ap (λ n. counted (n + 0)) stands.messages ∙ kept;
+      glances = ap (λ n. counted (n + 0)) stands.glances;
+      counted = stands.counted;
+    }
+
+-- an item more
+abbrev pub item_counted : Desk → Desk
+item_counted desk = record desk { items = counted (desk.items + 1) }
+
+pub counts-stands : (setup : Setup) (rest : List ℕ) (desk : Desk) (state : DeskState) → StandsWith setup rest desk state → StandsWith setup rest (item_counted desk) (count_item state)
+counts-stands setup rest desk state stands = record {
+  numbers = record {
+    width = stands.numbers.width; height = stands.numbers.height; border = stands.numbers.border; pages = stands.numbers.pages;
+    background = stands.numbers.background; label = stands.numbers.label; wide = stands.numbers.wide; high = stands.numbers.high; narrow = stands.numbers.narrow;
+  };
+  rows = stands.rows;
+  normal = stands.normal;
+  over = stands.over;
+  sound = stands.sound;
+  one = stands.one;
+  greeted = stands.greeted;
+  ended = stands.ended;
+  left = stands.left;
+  items = ap (λ n. counted (n + 1)) stands.items;
+  messages = stands.messages;
+  glances = stands.glances;
+  counted = stands.counted;
+}
+
+-- another rest of an open session
+pub rest-stands : (setup : Setup) (rest new : List ℕ) (desk : Desk) (state : DeskState) → StandsWith setup rest desk state → desk.ended ≡ false
+    → StandsWith setup new desk (with_session 0 (record (session_of 0 state) { rest = new }) state)
+rest-stands setup rest new desk state stands open_still =
+    let session : Session = record (session_of 0 state) { rest = new } in
+    let put : session_of 0 (with_session 0 session state) ≡ session = session-put 0 session state (there setup rest desk state stands) in
+    record {
+      numbers = stands.numbers;
+      rows = stands.rows;
+      normal = stands.normal;
+      over = stands.over;
+      sound = stands.sound;
+      one = length-set state.sessions 0 session ∙ stands.one;
+      greeted = ap (λ (s : Session). s.greeted) put ∙ stands.greeted;
+      ended = ap (λ (s : Session). is_some s.ended) put ∙ stands.ended;
+      left = ap (λ (s : Session). s.rest) put ∙ ap (λ b. if b then [] else new) (sym open_still);
+      items = stands.items;
+      messages = stands.messages;
+      glances = stands.glances;
+      counted = stands.counted;
+    }
+
+-- a rest that is empty, and one of a session that ended
+pub no-rest-stands : (setup : Setup) (rest : List ℕ) (desk : Desk) (state : DeskState) → StandsWith setup rest desk state → (desk.ended ≡ false → rest ≡ []) → Stands setup desk state
+no-rest-stands setup rest desk state stands none = record {
+  numbers = stands.numbers;
+  rows = stands.rows;
+  normal = stands.normal;
+  over = stands.over;
+  sound = stands.sound;
+  one = stands.one;
+  greeted = stands.greeted;
+  ended = stands.ended;
+  left = stands.left ∙ by_end desk.ended none;
+  items = stands.items;
+  messages = stands.messages;
+  glances = stands.glances;
+  counted = stands.counted;
+}
+  where
+    by_end : (b : Bool) → (b ≡ false → rest ≡ []) → (if b then [] else rest) ≡ (if b then [] else [])
+    by_end true e = refl
+    by_end false e = e refl
+
+-- ---- the desk of a setup
+
+pub opening-stands : (setup : Setup) (desk : Desk) → HasNumbers setup desk → length setup.guests ≡ 1
+    → desk.windows ≡ no_windows → desk.greeted ≡ false → desk.ended ≡ false → desk.items ≡ 0 → desk.messages ≡ 0
+    → Stands setup desk (opening setup)
+opening-stands setup desk numbers one windows greeted ended items messages =
+    let session : session_of 0 (opening setup) ≡ fresh setup.pages = ap (λ n. get_or (replicate n (fresh setup.pages)) 0 (fresh 0)) one in
+    let P : WindowsView → Type 0 = λ w. AreSound w in
+    record {
+      numbers = numbers;
+      rows = sym (ap (λ (w : WindowsView). map row_of w.table) windows);
+      normal = sym (ap (λ (w : WindowsView). map id_in w.stack) windows);
+      over = refl;
+      sound = subst P (sym windows) (changes-cleared no_windows).sound;
+      one = length-replicate (length setup.guests) (fresh setup.pages) ∙ one;
+      greeted = ap (λ (s : Session). s.greeted) session ∙ sym greeted;
+      ended = ap (λ (s : Session). is_some s.ended) session ∙ sym ended;
+      left = ap (λ (s : Session). s.rest) session ∙ sym (ap (λ b. if b then [] else []) ended);
+      items = sym items;
+      messages = sym messages;
+      glances = refl;
+      counted = omega arith;
     }
