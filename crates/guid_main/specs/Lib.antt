@@ -7,3 +7,4 @@ pub mod DeskPosts
 pub mod PictureView
 pub mod WindowsView
 pub mod DeskStands
+pub mod StreamFront

@@ -5,6 +5,7 @@ mod config;
 mod desk;
 mod picture;
 mod replay_feed;
+mod stream;
 mod windows;
 
 fn main(_rt: HostRuntime) {}
