@@ -12,13 +12,7 @@ use Rattle.desk_laws.specs.Sizes.{Sizes}
 use Rattle.desk_laws.specs.Stage.{told_cause}
 use Rattle.desk_laws.specs.Rows.{Row, row_with}
 use Rattle.desk_laws.specs.Ranges.{rect_in_range}
-use Rattle.desk_laws.specs.Effects.{Change, Added, Replaced, Verdict, Ends, Goes, unless, first_of_causes, exists_already, message_to, message_verdict, told_verdict, created, id_if, isnt_zero, same_rect, same_z, mapped_row, tells_move, tells_place}
-
--- whether a CREATE is accepted among its guest's rows
-abbrev pub admits : ℕ → ℕ → ℕ → List Row → Bool
-admits window width height own =
-    (not (window == 0) && (nat_lt width (2 ^ 31) && nat_lt height (2 ^ 31)))
-    && (not (is_some (row_with window own)) && nat_lt (length own) 1024)
+use Rattle.desk_laws.specs.Effects.{admits, Change, Added, Replaced, Verdict, Ends, Goes, unless, first_of_causes, exists_already, message_to, message_verdict, told_verdict, created, id_if, isnt_zero, same_rect, same_z, mapped_row, tells_move, tells_place}
 
 -- the verdict on a CREATE, from the tests that it makes
 created_by : ℕ → ℕ → ℕ → ℕ → Verdict → Bool → Bool → Bool → Option Row → Bool → Verdict

@@ -88,6 +88,12 @@ abbrev pub bad_ref : ℕ → List ℕ → Option Cause
 bad_ref pages [] = None
 bad_ref pages (ref ∷ refs) = if nat_lt ref pages then bad_ref pages refs else Some (RefRange ref pages)
 
+-- whether a CREATE is accepted among its guest's rows
+abbrev pub admits : ℕ → ℕ → ℕ → List Row → Bool
+admits window width height own =
+    (not (window == 0) && (nat_lt width (2 ^ 31) && nat_lt height (2 ^ 31)))
+    && (not (is_some (row_with window own)) && nat_lt (length own) 1024)
+
 abbrev pub refs_of : Option DumpOf → ℕ
 refs_of None = 0
 refs_of (Some dump) = length dump.refs

@@ -16,7 +16,7 @@ use Rattle.desk_laws.proofs.LayerLemmas.{layer-stays, layer-gains, same-gained, 
 use Rattle.desk_laws.proofs.VerdictLemmas.{now_mapped}
 use Rattle.guid_main.specs.declared.windows.Window.{Window}
 use Rattle.guid_main.specs.WindowsView.{WindowsView, row_of, id_in}
-use Rattle.guid_main.specs.DeskStands.{AreSound}
+use Rattle.guid_main.specs.WindowChanges.{AreSound, Changes}
 use Rattle.guid_main.proofs.WindowLemmas.{position-finds, position-fails}
 
 -- ---- all rows are the guest's
@@ -39,11 +39,6 @@ none-over (w ∷ table) = by_mapped w.mapped (none-over table)
     by_mapped false e = e
 
 -- ---- a change of the rows, and the windows before and after it
-
-pub record Changes (change : Change) (old new : WindowsView) : Type 0 where
-  pub rows : changed 0 change (map row_of old.table) ≡ map row_of new.table
-  pub normal : staying (layer_of false (map row_of new.table)) (map id_in old.stack) ++ coming (layer_of false (map row_of new.table)) (map id_in old.stack) ≡ map id_in new.stack
-  pub sound : AreSound new
 
 pub changes-same : (w : WindowsView) → AreSound w → Changes Same w w
 changes-same w sound = record {

@@ -18,8 +18,9 @@ use Rattle.desk_laws.proofs.UnitLemmas.{effect_of, session-put}
 use Rattle.guid_main.specs.declared.desk.Desk.{Desk}
 use Rattle.guid_main.specs.PictureView.{PictureView}
 use Rattle.guid_main.specs.WindowsView.{WindowsView, row_of, id_in}
-use Rattle.guid_main.specs.DeskStands.{StandsWith, Stands, AreSound, HasNumbers}
-use Rattle.guid_main.proofs.ChangeLemmas.{Changes, no_windows, changes-cleared, changes-same, mine-all, none-over}
+use Rattle.guid_main.specs.DeskStands.{StandsWith, Stands, HasNumbers}
+use Rattle.guid_main.specs.WindowChanges.{AreSound, Changes}
+use Rattle.guid_main.proofs.ChangeLemmas.{no_windows, changes-cleared, changes-same, mine-all, none-over}
 
 -- the other layer stays empty
 over-empty : (table : List _) (rows : List Row) (over : List _) → rows ≡ map row_of table → over ≡ []

@@ -1,12 +1,13 @@
 -- The table of windows: its mapped ones, and where an id stands.
 use Rattle.std.proofs.Common.{◌≡◌, ℕ, zero, suc, ◌+◌, ◌<◌, ◌≤◌, Bool, true, false, List, [], ◌∷◌, length, get_or, set, count_by, cond, refl, sym, ◌∙◌, ap, arith, length-set}
-use Rattle.std.specs.Prelude.{◌==◌, find, position, slice_get, map, option_map, Option, Some, None}
+use Rattle.std.specs.Prelude.{◌==◌, find, position, slice_get, map, is_some, ◌||◌, if◌then◌else◌, option_map, Option, Some, None}
 use Rattle.std.specs.List.{position_or_len}
 use Rattle.std.proofs.lemmas.Bool.Decides.{nat_tests}
 use Rattle.std.proofs.lemmas.Grind.{common_steps}
 use Rattle.std.proofs.lemmas.List.Folds.{find_at}
 use Rattle.std.proofs.lemmas.Option.{slice_get_past}
-use Rattle.desk_laws.specs.Rows.{is_row, row_at}
+use Rattle.desk_laws.specs.Rows.{is_row, row_at, row_with, id_of}
+use Rattle.desk_laws.specs.Layers.{is_in}
 use Rattle.guid_main.specs.declared.windows.Window.{Window}
 use Rattle.guid_main.specs.WindowsView.{row_of, id_in}
 use Rattle.std.proofs.lemmas.List.Sums.{sum_by-set, count_by-le-length}
@@ -42,3 +43,36 @@ row-found table id i w at here = find-map (is_row 0 id) row_of table ∙ ap (opt
 
 pub row-missing : (table : List Window) (id : ℕ) → position (λ v. v.id == id) table ≡ None → row_at (id_in id) (map row_of table) ≡ None
 row-missing table id none = find-map (is_row 0 id) row_of table ∙ ap (option_map row_of) (position-fails (λ v. v.id == id) table none)
+
+position-below : {X : Type 0} (p : X → Bool) (xs : List X) (i : ℕ) → position p xs ≡ Some i → i < length xs
+position-below p xs i is = grind (arith, nat_tests)
+
+some-within : {X : Type 0} (xs : List X) (i : ℕ) → i < length xs → is_some (slice_get xs i) ≡ true
+some-within [] i below = absurd (omega arith)
+some-within (x ∷ xs) zero below = refl
+some-within (x ∷ xs) (suc i) below = some-within xs i (omega arith)
+
+-- whether an id stands in the table
+pub known-is : (table : List Window) (id : ℕ) → is_some (position (λ v. v.id == id) table) ≡ is_some (row_with id (map row_of table))
+known-is table id =
+    by_place (position (λ v. v.id == id) table) refl ∙ sym (ap is_some (find-map (λ row. row.window == id) row_of table) ∙ some-mapped (find (λ v. v.id == id) table))
+  where
+    some-mapped : (o : Option Window) → is_some (option_map row_of o) ≡ is_some o
+    some-mapped None = refl
+    some-mapped (Some w) = refl
+    by_place : (o : Option ℕ) → position (λ v. v.id == id) table ≡ o → is_some o ≡ is_some (find (λ v. v.id == id) table)
+    by_place None e = sym (ap is_some (position-fails (λ v. v.id == id) table e))
+    by_place (Some i) e = sym (ap is_some (position-finds (λ v. v.id == id) table i e) ∙ some-within table i (position-below (λ v. v.id == id) table i e))
+
+-- a row that its id doesn't have
+pub not-among : (table : List Window) (id : ℕ) → is_some (row_with id (map row_of table)) ≡ false → is_in (map id_of (map row_of table)) (id_in id) ≡ false
+not-among [] id none = refl
+not-among (w ∷ table) id none = by_test (w.id == id) (id == w.id) (swapped w.id id) none (not-among table id)
+  where
+    swapped : (a b : ℕ) → (a == b) ≡ (b == a)
+    swapped a b = grind (arith, nat_tests)
+    by_test : (t u : Bool) → t ≡ u → is_some (if t then Some (row_of w) else row_with id (map row_of table)) ≡ false
+        → (is_some (row_with id (map row_of table)) ≡ false → is_in (map id_of (map row_of table)) (id_in id) ≡ false)
+        → (u || is_in (map id_of (map row_of table)) (id_in id)) ≡ false
+    by_test true u e out rest = cc
+    by_test false u e out rest = ap (λ v. v || is_in (map id_of (map row_of table)) (id_in id)) (sym e) ∙ rest out

@@ -1,13 +1,12 @@
 -- Which state of the definitions a desk stands for.
 use Rattle.std.specs.Prelude.{◌≡◌, ℕ, ◌-◌, ◌^◌, ◌≤◌, Bool, true, false, List, [], length, map, is_some, if◌then◌else◌}
 use Rattle.desk_laws.specs.declared.setup.Setup.{Setup}
-use Rattle.desk_laws.specs.Rows.{id_of}
-use Rattle.desk_laws.specs.Layers.{are_apart, HaveSame, layer_of}
 use Rattle.desk_laws.specs.Picture.{label_of}
 use Rattle.desk_laws.specs.State.{DeskState, session_of}
 use Rattle.guid_main.specs.declared.desk.Desk.{Desk}
 use Rattle.guid_main.specs.PictureView.{PictureView}
-use Rattle.guid_main.specs.WindowsView.{WindowsView, row_of, id_in}
+use Rattle.guid_main.specs.WindowsView.{row_of, id_in}
+use Rattle.guid_main.specs.WindowChanges.{AreSound}
 
 -- the picture of a desk
 abbrev pub picture_of : Desk → PictureView
@@ -16,11 +15,6 @@ picture_of desk = desk.picture
 -- how many pages a guest's frames have
 abbrev pub pages_of : Desk → ℕ
 pages_of desk = desk.pages
-
--- no id stands twice in the table, and the stack has the ids of the mapped windows
-pub record AreSound (w : WindowsView) : Type 0 where
-  pub apart : are_apart (map id_of (map row_of w.table)) ≡ true
-  pub followed : HaveSame (map id_in w.stack) (map id_of (layer_of false (map row_of w.table)))
 
 -- the desk's numbers are those of the setup, in their ranges
 pub record HasNumbers (setup : Setup) (desk : Desk) : Type 0 where

@@ -6,5 +6,6 @@ pub mod FeedReadings
 pub mod DeskPosts
 pub mod PictureView
 pub mod WindowsView
+pub mod WindowChanges
 pub mod DeskStands
 pub mod StreamFront

@@ -1,16 +1,24 @@
 // The guest's windows, and their stacking order.
-ghost use Rattle.std.specs.Prelude.{◌≡◌, ℕ, List, ◌+◌, ◌*◌, ◌<◌, ◌≤◌, ◌++◌, [], ◌∷◌, ◌==◌, ◌&&◌, true, false, length, map, position, slice_set, slice_get, if◌then◌else◌, IfOk, IfSome};
+ghost use Rattle.std.specs.Prelude.{◌≡◌, ℕ, List, ◌+◌, ◌*◌, ◌<◌, ◌≤◌, ◌++◌, [], ◌∷◌, ◌==◌, ◌&&◌, true, false, length, map, position, slice_set, slice_get, if◌then◌else◌, is_some, IsTrue, IfOk, IfSome};
 ghost use Rattle.std.specs.Int.{w32, cast_signed};
 ghost use Rattle.gui_num.specs.declared.Point.{Point};
 ghost use Rattle.gui_num.specs.Rects.{has, grown};
 ghost use Rattle.desk_laws.specs.declared.row_id.RowId.{RowId};
 ghost use Rattle.desk_laws.specs.declared.setup.Setup.{Setup};
 ghost use Rattle.desk_laws.specs.Picture.{pixels, label_of};
+ghost use Rattle.desk_laws.specs.Rows.{row_with};
+ghost use Rattle.gui_wire.specs.AgentMessages.{kind_of};
+ghost use Rattle.gui_wire.specs.Seen.{message};
+ghost use Rattle.desk_laws.specs.Sizes.{Sizes};
+ghost use Rattle.desk_laws.specs.Stage.{takes_type};
+ghost use Rattle.desk_laws.specs.Effects.{id_if, admits, message_verdict};
+ghost use Rattle.guid_main.specs.WindowChanges.{AreSound, Applied};
 ghost use Rattle.desk_laws.specs.Ranges.{place_in_range, width_in_range, height_in_range, rect_in_range};
 ghost use Rattle.guid_main.specs.WindowsView.{IsPlace, row_of, id_in, colour_under};
 ghost use Rattle.guid_main.specs.declared.windows.Window.{Window};
 
 use crate::picture::Picture;
+use gui_wire::{AgentMsg, Header};
 use gui_num::{Colour, NoMemory, Rect, grow};
 use std::alloc::Global;
 use std::marker::Model;
@@ -115,6 +123,32 @@ impl Windows {
         self.table.iter().position(|w| w.id == id)
     }
 
+    // Whether there is a window with this id.
+    fn has(&self, id: u32) -> bool
+        ensures { result ≡ is_some (row_with id (map row_of self.now.table)) }
+    {
+        self.find(id).is_some()
+    }
+
+    // The id itself, where there is a window with it, else 0.
+    fn known(&self, id: u32) -> u32
+        ensures { result ≡ id_if (is_some (row_with id (map row_of self.now.table))) id }
+    {
+        if self.has(id) { id } else { 0 }
+    }
+
+    // Whether a CREATE of this window with this size is accepted: it has an id of its own that isn't
+    // 0, its size has no bit 31 set, and there is room for it.
+    fn admits(&self, id: u32, width: u32, height: u32) -> bool
+        ensures { result ≡ admits id width height (map row_of self.now.table) }
+    {
+        id != 0
+            && width < 0x8000_0000
+            && height < 0x8000_0000
+            && !self.has(id)
+            && self.table.len() < MAX_WINDOWS
+    }
+
     /// Takes up a new window, which isn't mapped.
     pub fn create(&mut self, window: Window)
         requires room { length self.old.table < 1024 }
@@ -141,6 +175,51 @@ impl Windows {
         };
         if !window.mapped {
             self.stack.push_reserved(window.id);
+        }
+    }
+
+    /// Does what a CREATE or MAP asks for, and answers whether the message was accepted. It is refused,
+    /// and nothing changes, where a CREATE names no id or one that is there, asks for a size with bit
+    /// 31 set, or is one more than there may be, and where a MAP names no window.
+    pub fn apply(&mut self, header: Header, msg: &AgentMsg) -> bool
+        requires { IsTrue (takes_type (kind_of (message msg.now))) }
+        ensures { (sizes : Sizes) (minor : ℕ) → AreSound self.old → Applied header.kind (message_verdict sizes 0 minor (map row_of self.old.table) header (Some (message msg.now))) result self.old self.new }
+    {
+        match *msg {
+            AgentMsg::Create {
+                x,
+                y,
+                width,
+                height,
+                parent,
+                override_redirect,
+            } => {
+                if !self.admits(header.window, width, height) {
+                    return false;
+                }
+                let parent = self.known(parent);
+                self.create(Window {
+                    id: header.window,
+                    place: rect_of(x, y, width, height),
+                    mapped: false,
+                    asked: override_redirect != 0,
+                    parent,
+                    transient: 0,
+                });
+                true
+            }
+            AgentMsg::Map {
+                transient_for,
+                override_redirect,
+            } => {
+                let Some(at) = self.find(header.window) else {
+                    return false;
+                };
+                let transient = self.known(transient_for);
+                self.map(at, override_redirect != 0, transient);
+                true
+            }
+            _ => false,
         }
     }
 
