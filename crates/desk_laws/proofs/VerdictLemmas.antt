@@ -21,9 +21,9 @@ created_by window width height kind v zero_id narrow low known room =
     (unless (first_of_causes ((if zero_id then Some (BadRange 0 window) else None) ∷ (if narrow then None else Some (BadRange 3 width)) ∷ (if low then None else Some (BadRange 4 height)) ∷ []))
         (unless (first_of_causes (exists_already known window ∷ (if room then None else Some (TooManyWindows window 1024)) ∷ [])) v))
 
-abbrev chosen : ℕ → Verdict → Bool → Verdict
-chosen kind v true = v
-chosen kind v false = Ends (BadType kind 0)
+-- a verdict where a message is accepted, else the end of the session
+abbrev pub chosen : ℕ → Verdict → Bool → Verdict
+chosen kind v accepted = if accepted then v else Ends (BadType kind 0)
 
 created-by : (window width height kind : ℕ) (change : Change) (answers : List (List ℕ)) (zero_id narrow low : Bool) (known : Option Row) (room : Bool)
     → created_by window width height kind (Goes change answers) zero_id narrow low known room

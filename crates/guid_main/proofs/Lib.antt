@@ -3,3 +3,4 @@ pub mod WindowLemmas
 pub mod DrawLemmas
 pub mod ChangeLemmas
 pub mod StandLemmas
+pub mod ApplyLemmas

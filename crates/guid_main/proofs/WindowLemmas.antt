@@ -22,7 +22,7 @@ count-below p xs i d y below out passes =
 
 -- ---- where an id stands
 
-find-map : {X Y : Type 0} (p : Y → Bool) (f : X → Y) (xs : List X) → find p (map f xs) ≡ option_map f (find (λ x. p (f x)) xs)
+pub find-map : {X Y : Type 0} (p : Y → Bool) (f : X → Y) (xs : List X) → find p (map f xs) ≡ option_map f (find (λ x. p (f x)) xs)
 find-map p f [] = refl
 find-map p f (x ∷ xs) = ap (λ o. cond (p (f x)) (Some (f x)) o) (find-map p f xs) ∙ turned (p (f x))
   where
@@ -44,7 +44,7 @@ row-found table id i w at here = find-map (is_row 0 id) row_of table ∙ ap (opt
 pub row-missing : (table : List Window) (id : ℕ) → position (λ v. v.id == id) table ≡ None → row_at (id_in id) (map row_of table) ≡ None
 row-missing table id none = find-map (is_row 0 id) row_of table ∙ ap (option_map row_of) (position-fails (λ v. v.id == id) table none)
 
-position-below : {X : Type 0} (p : X → Bool) (xs : List X) (i : ℕ) → position p xs ≡ Some i → i < length xs
+pub position-below : {X : Type 0} (p : X → Bool) (xs : List X) (i : ℕ) → position p xs ≡ Some i → i < length xs
 position-below p xs i is = grind (arith, nat_tests)
 
 some-within : {X : Type 0} (xs : List X) (i : ℕ) → i < length xs → is_some (slice_get xs i) ≡ true
