@@ -18,7 +18,7 @@ use Rattle.desk_laws.proofs.UnitLemmas.{effect_of, session-put}
 use Rattle.guid_main.specs.declared.desk.Desk.{Desk}
 use Rattle.guid_main.specs.PictureView.{PictureView}
 use Rattle.guid_main.specs.WindowsView.{WindowsView, row_of, id_in}
-use Rattle.guid_main.specs.DeskStands.{StandsWith, Stands, HasNumbers}
+use Rattle.guid_main.specs.DeskStands.{StandsWith, Stands, HasNumbers, ended_desk, message_taken, greeted_desk, item_counted}
 use Rattle.guid_main.specs.WindowChanges.{AreSound, Changes}
 use Rattle.guid_main.proofs.ChangeLemmas.{no_windows, changes-cleared, changes-same, mine-all, none-over}
 
@@ -29,10 +29,6 @@ over-empty table rows over is empty =
     ap (λ rs. staying (layer_of true rs) over ++ coming (layer_of true rs) over) is
     ∙ ap (λ ids. staying (layer_of true (map row_of table)) ids ++ coming (layer_of true (map row_of table)) ids) empty
     ∙ ap (λ rs. coming rs []) (none-over table)
-
--- a desk whose session ended
-abbrev pub ended_desk : Desk → Desk
-ended_desk desk = record desk { windows = no_windows; ended = true }
 
 there : (setup : Setup) (rest : List ℕ) (desk : Desk) (state : DeskState) → StandsWith setup rest desk state → 0 < length state.sessions
 there setup rest desk state stands = omega (arith, stands.one)
@@ -62,7 +58,7 @@ ends-stands setup rest desk state input cause stands =
       items = stands.items;
       messages = stands.messages;
       glances = stands.glances;
-      counted = stands.counted;
+      in_range = stands.in_range;
     }
 
 counted-more : (n : ℕ) → counted (n + 1) ≤ 2 ^ 64 - 1
@@ -74,10 +70,6 @@ normal-after : (setup : Setup) (rest : List ℕ) (desk : Desk) (state : DeskStat
 normal-after setup rest desk state change new stands changes =
     ap (λ rs. staying (layer_of false rs) state.scene.layers.normal ++ coming (layer_of false rs) state.scene.layers.normal) (ap (changed 0 change) stands.rows ∙ changes.rows)
     ∙ ap (λ ids. staying (layer_of false (map row_of new.table)) ids ++ coming (layer_of false (map row_of new.table)) ids) stands.normal ∙ changes.normal
-
--- a desk that took one message
-abbrev pub message_taken : WindowsView → Desk → Desk
-message_taken new desk = record desk { windows = new; messages = counted (desk.messages + 1) }
 
 pub goes-stands : (setup : Setup) (rest : List ℕ) (desk : Desk) (state : DeskState) (header : Header) (body : List ℕ) (change : Change) (answers : List (List ℕ)) (new : WindowsView)
     → StandsWith setup rest desk state → Changes change desk.windows new
@@ -102,12 +94,8 @@ goes-stands setup rest desk state header body change answers new stands changes 
       items = stands.items;
       messages = ap (λ n. counted (n + 1)) stands.messages;
       glances = ap (λ n. counted (n + 0)) stands.glances;
-      counted = counted-more desk.messages;
+      in_range = counted-more desk.messages;
     }
-
--- a desk that greeted its guest
-abbrev pub greeted_desk : Desk → Desk
-greeted_desk desk = record desk { greeted = true }
 
 pub greets-stands : (setup : Setup) (rest : List ℕ) (desk : Desk) (state : DeskState) (word minor : ℕ) (answers : List (List ℕ))
     → StandsWith setup rest desk state
@@ -116,7 +104,7 @@ greets-stands setup rest desk state word minor answers stands =
     let session : Session = record (session_of 0 state) { greeted = true; minor = minor } in
     let put : session_of 0 (with_session 0 session state) ≡ session = session-put 0 session state (there setup rest desk state stands) in
     let changes = changes-same desk.windows stands.sound in
-    let kept : counted (desk.messages + 0) ≡ desk.messages = omega (arith, stands.counted) in
+    let kept : counted (desk.messages + 0) ≡ desk.messages = omega (arith, stands.in_range) in
     record {
       numbers = record {
         width = stands.numbers.width; height = stands.numbers.height; border = stands.numbers.border; pages = stands.numbers.pages;
@@ -133,12 +121,8 @@ greets-stands setup rest desk state word minor answers stands =
       items = stands.items;
       messages = ap (λ n. counted (n + 0)) stands.messages ∙ kept;
       glances = ap (λ n. counted (n + 0)) stands.glances;
-      counted = stands.counted;
+      in_range = stands.in_range;
     }
-
--- an item more
-abbrev pub item_counted : Desk → Desk
-item_counted desk = record desk { items = counted (desk.items + 1) }
 
 pub counts-stands : (setup : Setup) (rest : List ℕ) (desk : Desk) (state : DeskState) → StandsWith setup rest desk state → StandsWith setup rest (item_counted desk) (count_item state)
 counts-stands setup rest desk state stands = record {
@@ -157,7 +141,7 @@ counts-stands setup rest desk state stands = record {
   items = ap (λ n. counted (n + 1)) stands.items;
   messages = stands.messages;
   glances = stands.glances;
-  counted = stands.counted;
+  in_range = stands.in_range;
 }
 
 -- another rest of an open session
@@ -179,7 +163,7 @@ rest-stands setup rest new desk state stands open_still =
       items = stands.items;
       messages = stands.messages;
       glances = stands.glances;
-      counted = stands.counted;
+      in_range = stands.in_range;
     }
 
 -- a rest that is empty, and one of a session that ended
@@ -197,7 +181,7 @@ no-rest-stands setup rest desk state stands none = record {
   items = stands.items;
   messages = stands.messages;
   glances = stands.glances;
-  counted = stands.counted;
+  in_range = stands.in_range;
 }
   where
     by_end : (b : Bool) → (b ≡ false → rest ≡ []) → (if b then [] else rest) ≡ (if b then [] else [])
@@ -225,5 +209,5 @@ opening-stands setup desk numbers one windows greeted ended items messages =
       items = sym items;
       messages = sym messages;
       glances = refl;
-      counted = omega arith;
+      in_range = omega arith;
     }

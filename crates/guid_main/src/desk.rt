@@ -1,20 +1,58 @@
 // The desktop: one guest's session with its windows, and the picture of them.
-ghost use Rattle.std.specs.Prelude.{◌≡◌, IfOk, true, false};
+ghost use Rattle.std.specs.Prelude.{◌≡◌, ℕ, ◌≤◌, ◌+◌, List, [], length, IfOk, true, false};
+ghost use Rattle.gui_wire.specs.declared.Header.{Header};
+ghost use Rattle.desk_laws.specs.declared.setup.Setup.{Setup};
+ghost use Rattle.desk_laws.specs.Sizes.{Sizes};
 ghost use Rattle.desk_laws.specs.Rules.{first_broken};
-ghost use Rattle.desk_laws.specs.State.{opening};
-ghost use Rattle.guid_main.specs.DeskStands.{Stands, picture_of};
+ghost use Rattle.desk_laws.specs.Items.{FitsItem};
+ghost use Rattle.desk_laws.specs.Stream.{Word, Whole, head_fault};
+ghost use Rattle.desk_laws.specs.Effects.{greeting};
+ghost use Rattle.desk_laws.specs.Picture.{picture};
+ghost use Rattle.desk_laws.specs.Scene.{Ended, replies};
+ghost use Rattle.desk_laws.specs.State.{DeskState, opening};
+ghost use Rattle.desk_laws.specs.Steps.{take_unit, take_bytes, step};
+ghost use Rattle.io_ports.specs.Posts.{Leads};
+ghost use Rattle.guid_main.specs.DeskPosts.{guest_posts};
+ghost use Rattle.guid_main.specs.DeskStands.{Stands, StandsWith, LeadsTo, picture_of, pages_of, ended_desk, greeted_desk, stepped_of, summary_of};
 
 use crate::picture::Picture;
-use crate::windows::Windows;
-use desk_laws::Setup;
+use crate::stream::{Front, front_of};
+use crate::windows::{BorderWidth, Windows};
+use desk_laws::{Cause, Item, Setup};
 use gui_num::{Colour, NoMemory};
+use gui_wire::{Header, body_of, spell_word, spell_xconf};
+use io_ports::Outlet;
 use std::alloc::Global;
+
+/// The daemon's version of the Qubes GUI protocol: 1.7.
+const VERSION: u32 = 0x0001_0007;
+
+/// What a step did.
+#[derive(Clone, Copy, Debug, PartialEq, Eq)]
+pub enum Stepped {
+    /// The next item may come.
+    Going,
+    /// The picture is drawn anew.
+    Snap,
+    /// The input ended.
+    Ended,
+}
+
+/// How many items and messages there were, how many words were read of frames, and how many pixels
+/// were drawn. Each number stays at 2^64 - 1 once it is there.
+#[derive(Clone, Copy, Debug, PartialEq, Eq)]
+pub struct Summary {
+    pub items: u64,
+    pub messages: u64,
+    pub glances: u64,
+    pub painted: u64,
+}
 
 /// A desktop with one guest. It takes the items of its input one after the other, answers the guest,
 /// and keeps a picture of what it shows.
 #[derive(Drop)]
 pub struct Desk {
-    border: u32,
+    border: BorderWidth,
     pages: u32,
     background: Colour,
     label: Colour,
@@ -36,7 +74,7 @@ impl Desk {
     {
         let guests = setup.guests.items();
         Ok(Desk {
-            border: setup.border,
+            border: BorderWidth::new(setup.border),
             pages: setup.pages,
             background: setup.background,
             label: guests[0].colour,
@@ -47,5 +85,63 @@ impl Desk {
             messages: 0,
             picture: Picture::new(alloc, setup.width, setup.height, setup.background)?,
         })
+    }
+
+    // Ends the session: the guest is told why, and its windows are gone.
+    fn end<O: Outlet>(&mut self, cause: Cause, out: &mut O)
+        ensures desk { self.new ≡ ended_desk self.old }
+        ensures told { O.takes out.old (Ended 0 cause) out.new }
+    {
+        self.windows.clear();
+        self.ended = true;
+        out.ended(0, cause);
+    }
+
+    // Answers a version word: with the daemon's version from minor version 4 on, and with the size of
+    // the desktop.
+    fn greet<O: Outlet>(&self, minor: u32, out: &mut O)
+        ensures { (sizes : Sizes) → sizes.width ≡ self.now.picture.width → sizes.height ≡ self.now.picture.height → Leads O.takes out.old (replies 0 (greeting sizes minor)) out.new }
+    {
+        if minor >= 4 {
+            let mut version = [0; 4];
+            spell_word(VERSION, &mut version);
+            out.reply(0, &version);
+        }
+        let mut xconf = [0; 16];
+        spell_xconf(self.picture.width(), self.picture.height(), &mut xconf);
+        out.reply(0, &xconf);
+    }
+
+    // Takes the version word, whose upper half is the major version.
+    fn take_word<O: Outlet>(&mut self, word: u32, out: &mut O)
+        ensures { (setup : Setup) (rest : List ℕ) (state : DeskState) → StandsWith setup rest self.old state → self.old.ended ≡ false → LeadsTo O.takes out.old out.new setup rest self.new (take_unit setup 0 (Word word) state) }
+    {
+        if word / 0x1_0000 == 1 {
+            self.greet(word % 0x1_0000, out);
+            self.greeted = true;
+        } else {
+            self.end(Cause::BadVersion { a: word, b: 0 }, out);
+        }
+    }
+
+    // Takes a message whose header has no fault.
+    fn take_message<O: Outlet>(&mut self, header: Header, body: &[u8], out: &mut O)
+        requires len { length body.now ≡ header.len }
+        requires taken { head_fault header ≡ None }
+        ensures { (setup : Setup) (rest : List ℕ) (state : DeskState) → StandsWith setup rest self.old state → self.old.ended ≡ false → LeadsTo O.takes out.old out.new setup rest self.new (take_unit setup 0 (Whole header body.now) state) }
+    {
+        let accepted = match body_of(body, header) {
+            Ok(message) => self.windows.apply(header, &message),
+            Err(_) => false,
+        };
+        if accepted {
+            self.messages = self.messages.saturating_add(1);
+        } else {
+            let cause = Cause::BadType {
+                a: header.kind,
+                b: 0,
+            };
+            self.end(cause, out);
+        }
     }
 }

@@ -81,6 +81,40 @@ pub fn rect_of(x: u32, y: u32, width: u32, height: u32) -> Rect
     }
 }
 
+/// How wide the windows' borders are, at most 16 pixels. It is seen as the number of pixels.
+#[derive(Drop)]
+pub struct BorderWidth {
+    pixels: u32,
+}
+
+impl Model for BorderWidth {
+    ghost use Rattle.std.specs.Prelude.{ℕ, ◌≤◌};
+
+    ghost Value = { ℕ };
+
+    ghost view = { λ b. b.pixels };
+
+    ghost invariant = { λ b. b.pixels ≤ 16 };
+}
+
+impl BorderWidth {
+    /// This many pixels, at most 16.
+    pub fn new(pixels: u32) -> BorderWidth
+        requires { pixels ≤ 16 }
+        ensures { result ≡ pixels }
+    {
+        BorderWidth { pixels }
+    }
+
+    /// The number of pixels.
+    pub fn pixels(&self) -> u32
+        ensures is { result ≡ self.now }
+        ensures narrow { result ≤ 16 }
+    {
+        self.pixels
+    }
+}
+
 // What a window shows where nothing was read of its content.
 const BLANK: Colour = Colour(0x808080);
 
