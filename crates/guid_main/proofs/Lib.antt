@@ -4,3 +4,5 @@ pub mod DrawLemmas
 pub mod ChangeLemmas
 pub mod StandLemmas
 pub mod ApplyLemmas
+pub mod PostLemmas
+pub mod UnitStands
