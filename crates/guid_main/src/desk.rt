@@ -20,7 +20,7 @@ use crate::stream::{Front, front_of};
 use crate::windows::{BorderWidth, Windows};
 use desk_laws::{Cause, Item, Setup};
 use gui_num::{Colour, NoMemory};
-use gui_wire::{Header, body_of, spell_word, spell_xconf};
+use gui_wire::{Header, spell_word, spell_xconf};
 use io_ports::Outlet;
 use std::alloc::Global;
 
@@ -130,11 +130,7 @@ impl Desk {
         requires taken { head_fault header ≡ None }
         ensures { (setup : Setup) (rest : List ℕ) (state : DeskState) → StandsWith setup rest self.old state → self.old.ended ≡ false → LeadsTo O.takes out.old out.new setup rest self.new (take_unit setup 0 (Whole header body.now) state) }
     {
-        let accepted = match body_of(body, header) {
-            Ok(message) => self.windows.apply(header, &message),
-            Err(_) => false,
-        };
-        if accepted {
+        if self.windows.take(header, body) {
             self.messages = self.messages.saturating_add(1);
         } else {
             let cause = Cause::BadType {
@@ -142,6 +138,27 @@ impl Desk {
                 b: 0,
             };
             self.end(cause, out);
+        }
+    }
+
+    // Takes the first unit off the bytes, and answers how many bytes it had; `None` where the session
+    // ended, or no whole unit is left.
+    fn take_front<O: Outlet>(&mut self, bytes: &[u8], out: &mut O) -> Option<usize> {
+        match front_of(self.greeted, bytes) {
+            Front::Wait => None,
+            Front::Fault(cause) => {
+                self.end(cause, out);
+                None
+            }
+            Front::Word(word) => {
+                self.take_word(word, out);
+                Some(4)
+            }
+            Front::Message(header) => {
+                let size = 12 + header.len as usize;
+                self.take_message(header, &bytes[12..size], out);
+                Some(size)
+            }
         }
     }
 }

@@ -1,5 +1,5 @@
 // The guest's windows, and their stacking order.
-ghost use Rattle.std.specs.Prelude.{◌≡◌, ℕ, List, ◌+◌, ◌*◌, ◌<◌, ◌≤◌, ◌++◌, [], ◌∷◌, ◌==◌, ◌&&◌, true, false, length, map, position, slice_set, slice_get, if◌then◌else◌, is_some, IsTrue, IfOk, IfSome};
+ghost use Rattle.std.specs.Prelude.{◌≡◌, ℕ, List, ◌+◌, ◌*◌, ◌<◌, ◌≤◌, ◌++◌, [], ◌∷◌, ◌==◌, ◌&&◌, true, false, length, map, position, slice_set, slice_get, if◌then◌else◌, is_some, Some, None, IsTrue, IfOk, IfSome};
 ghost use Rattle.std.specs.Int.{w32, cast_signed};
 ghost use Rattle.gui_num.specs.declared.Point.{Point};
 ghost use Rattle.gui_num.specs.Rects.{has, grown};
@@ -7,10 +7,11 @@ ghost use Rattle.desk_laws.specs.declared.row_id.RowId.{RowId};
 ghost use Rattle.desk_laws.specs.declared.setup.Setup.{Setup};
 ghost use Rattle.desk_laws.specs.Picture.{pixels, label_of};
 ghost use Rattle.desk_laws.specs.Rows.{row_with};
-ghost use Rattle.gui_wire.specs.AgentMessages.{kind_of};
+ghost use Rattle.gui_wire.specs.AgentMessages.{kind_of, reading};
 ghost use Rattle.gui_wire.specs.Seen.{message};
 ghost use Rattle.desk_laws.specs.Sizes.{Sizes};
 ghost use Rattle.desk_laws.specs.Stage.{takes_type};
+ghost use Rattle.desk_laws.specs.Stream.{head_fault};
 ghost use Rattle.desk_laws.specs.Effects.{id_if, admits, message_verdict};
 ghost use Rattle.guid_main.specs.WindowChanges.{AreSound, Applied};
 ghost use Rattle.desk_laws.specs.Ranges.{place_in_range, width_in_range, height_in_range, rect_in_range};
@@ -18,7 +19,7 @@ ghost use Rattle.guid_main.specs.WindowsView.{IsPlace, row_of, id_in, colour_und
 ghost use Rattle.guid_main.specs.declared.windows.Window.{Window};
 
 use crate::picture::Picture;
-use gui_wire::{AgentMsg, Header};
+use gui_wire::{AgentMsg, Header, body_of};
 use gui_num::{Colour, NoMemory, Rect, grow};
 use std::alloc::Global;
 use std::marker::Model;
@@ -215,7 +216,19 @@ impl Windows {
     /// Does what a CREATE or MAP asks for, and answers whether the message was accepted. It is refused,
     /// and nothing changes, where a CREATE names no id or one that is there, asks for a size with bit
     /// 31 set, or is one more than there may be, and where a MAP names no window.
-    pub fn apply(&mut self, header: Header, msg: &AgentMsg) -> bool
+    pub fn take(&mut self, header: Header, body: &[u8]) -> bool
+        requires len { length body.now ≡ header.len }
+        requires taken { head_fault header ≡ None }
+        ensures { (sizes : Sizes) (minor : ℕ) → AreSound self.old → Applied header.kind (message_verdict sizes 0 minor (map row_of self.old.table) header (reading header.kind body.now)) result self.old self.new }
+    {
+        match body_of(body, header) {
+            Ok(msg) => self.apply(header, &msg),
+            Err(_) => false,
+        }
+    }
+
+    // Does what a message asks for, and answers whether it was accepted.
+    fn apply(&mut self, header: Header, msg: &AgentMsg) -> bool
         requires { IsTrue (takes_type (kind_of (message msg.now))) }
         ensures { (sizes : Sizes) (minor : ℕ) → AreSound self.old → Applied header.kind (message_verdict sizes 0 minor (map row_of self.old.table) header (Some (message msg.now))) result self.old self.new }
     {
