@@ -6,3 +6,4 @@ pub mod StandLemmas
 pub mod ApplyLemmas
 pub mod PostLemmas
 pub mod UnitStands
+pub mod PieceLemmas

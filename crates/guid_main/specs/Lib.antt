@@ -9,3 +9,4 @@ pub mod WindowsView
 pub mod WindowChanges
 pub mod DeskStands
 pub mod StreamFront
+pub mod PieceSteps

@@ -1,18 +1,19 @@
 // The desktop: one guest's session with its windows, and the picture of them.
-ghost use Rattle.std.specs.Prelude.{◌≡◌, ℕ, ◌≤◌, ◌+◌, List, [], length, IfOk, true, false};
+ghost use Rattle.std.specs.Prelude.{◌≡◌, ℕ, ◌<◌, ◌≤◌, ◌+◌, List, [], length, drop, IfOk, IfSome, MatchOption, true, false};
 ghost use Rattle.gui_wire.specs.declared.Header.{Header};
 ghost use Rattle.desk_laws.specs.declared.setup.Setup.{Setup};
 ghost use Rattle.desk_laws.specs.Sizes.{Sizes};
 ghost use Rattle.desk_laws.specs.Rules.{first_broken};
 ghost use Rattle.desk_laws.specs.Items.{FitsItem};
-ghost use Rattle.desk_laws.specs.Stream.{Word, Whole, head_fault};
+ghost use Rattle.desk_laws.specs.Stream.{Word, Whole, head_fault, cut};
 ghost use Rattle.desk_laws.specs.Effects.{greeting};
 ghost use Rattle.desk_laws.specs.Picture.{picture};
 ghost use Rattle.desk_laws.specs.Scene.{Ended, replies};
 ghost use Rattle.desk_laws.specs.State.{DeskState, opening};
-ghost use Rattle.desk_laws.specs.Steps.{take_unit, take_bytes, step};
+ghost use Rattle.desk_laws.specs.Steps.{take_unit, take_bytes, is_nil, step};
 ghost use Rattle.io_ports.specs.Posts.{Leads};
 ghost use Rattle.guid_main.specs.DeskPosts.{guest_posts};
+ghost use Rattle.guid_main.specs.PieceSteps.{taken_from, TookOne, TookAll};
 ghost use Rattle.guid_main.specs.DeskStands.{Stands, StandsWith, LeadsTo, picture_of, pages_of, ended_desk, greeted_desk, stepped_of, summary_of};
 
 use crate::picture::Picture;
@@ -114,7 +115,8 @@ impl Desk {
 
     // Takes the version word, whose upper half is the major version.
     fn take_word<O: Outlet>(&mut self, word: u32, out: &mut O)
-        ensures { (setup : Setup) (rest : List ℕ) (state : DeskState) → StandsWith setup rest self.old state → self.old.ended ≡ false → LeadsTo O.takes out.old out.new setup rest self.new (take_unit setup 0 (Word word) state) }
+        ensures greeted { self.new.ended ≡ false → self.new.greeted ≡ true }
+        ensures took { (setup : Setup) (rest : List ℕ) (state : DeskState) → StandsWith setup rest self.old state → self.old.ended ≡ false → LeadsTo O.takes out.old out.new setup rest self.new (take_unit setup 0 (Word word) state) }
     {
         if word / 0x1_0000 == 1 {
             self.greet(word % 0x1_0000, out);
@@ -128,7 +130,8 @@ impl Desk {
     fn take_message<O: Outlet>(&mut self, header: Header, body: &[u8], out: &mut O)
         requires len { length body.now ≡ header.len }
         requires taken { head_fault header ≡ None }
-        ensures { (setup : Setup) (rest : List ℕ) (state : DeskState) → StandsWith setup rest self.old state → self.old.ended ≡ false → LeadsTo O.takes out.old out.new setup rest self.new (take_unit setup 0 (Whole header body.now) state) }
+        ensures greeted { self.new.greeted ≡ self.old.greeted }
+        ensures took { (setup : Setup) (rest : List ℕ) (state : DeskState) → StandsWith setup rest self.old state → self.old.ended ≡ false → LeadsTo O.takes out.old out.new setup rest self.new (take_unit setup 0 (Whole header body.now) state) }
     {
         if self.windows.take(header, body) {
             self.messages = self.messages.saturating_add(1);
@@ -143,7 +146,13 @@ impl Desk {
 
     // Takes the first unit off the bytes, and answers how many bytes it had; `None` where the session
     // ended, or no whole unit is left.
-    fn take_front<O: Outlet>(&mut self, bytes: &[u8], out: &mut O) -> Option<usize> {
+    fn take_front<O: Outlet>(&mut self, bytes: &[u8], out: &mut O) -> Option<usize>
+        ensures took { (setup : Setup) (rest : List ℕ) (state : DeskState) → StandsWith setup rest self.old state → MatchOption result (TookAll O.takes out.old out.new setup rest self.old self.new bytes.now state) (λ n. TookOne O.takes out.old out.new setup rest self.old self.new bytes.now (drop n bytes.now) state) }
+        ensures size { IfSome result (λ n. (0 < n) × (n ≤ length bytes.now)) }
+    {
+        if self.ended {
+            return None;
+        }
         match front_of(self.greeted, bytes) {
             Front::Wait => None,
             Front::Fault(cause) => {
@@ -159,6 +168,28 @@ impl Desk {
                 self.take_message(header, &bytes[12..size], out);
                 Some(size)
             }
+        }
+    }
+
+    // Takes all whole units off a piece, until one ends the session, and answers whether no byte is
+    // left.
+    fn take_units<O: Outlet>(&mut self, piece: &[u8], out: &mut O) -> bool
+        ensures { (setup : Setup) (rest : List ℕ) (state : DeskState) → StandsWith setup rest self.old state → (self.old.ended ≡ false → (cut self.old.greeted piece.now).rest ≡ rest) → LeadsTo O.takes out.old out.new setup rest self.new (taken_from setup self.old.greeted piece.now state) × (self.new.ended ≡ false → result ≡ is_nil rest) }
+    {
+        let mut left = piece;
+        while let Some(size) = self.take_front(left, out) {
+            left = &left[size..];
+        }
+        left.is_empty()
+    }
+
+    // Takes a piece of the guest's bytes. A session that is left with a part of a unit ends.
+    fn take_piece<O: Outlet>(&mut self, piece: &[u8], out: &mut O)
+        ensures { (setup : Setup) (state : DeskState) → Stands setup self.old state → LeadsTo O.takes out.old out.new setup [] self.new (take_bytes setup 0 piece.now state) }
+    {
+        let is_whole = self.take_units(piece, out);
+        if !self.ended && !is_whole {
+            self.end(Cause::StreamEnded { a: 0, b: 0 }, out);
         }
     }
 }

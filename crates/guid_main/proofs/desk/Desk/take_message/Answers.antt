@@ -8,8 +8,8 @@ use Rattle.guid_main.specs.declared.desk.Desk.{Desk}
 use Rattle.guid_main.proofs.UnitStands.{message-goes, unit-ends, own-rows}
 use Rattle.guid_main.proofs.desk.Desk.take_message.Goals as goal
 
-pub returns-then-take : goal.returns-then-take
-returns-then-take g c = λ setup rest state stands going.
+pub returns-then-take-clause-took : goal.returns-then-take-clause-took
+returns-then-take-clause-took g c = λ setup rest state stands going.
     let desk = c.args.self.now in
     let header = c.args.header in
     let body = c.args.body.now in
@@ -20,8 +20,8 @@ returns-then-take g c = λ setup rest state stands going.
     (ap (λ own. verdict (sizes_of setup) 0 minor own (Whole header body)) (own-rows setup rest desk state stands) ∙ applied.1)
     applied.2 (ap taken c.saturating_add-self.ensures)
 
-pub returns-else-take : goal.returns-else-take
-returns-else-take g c = λ setup rest state stands going.
+pub returns-else-take-clause-took : goal.returns-else-take-clause-took
+returns-else-take-clause-took g c = λ setup rest state stands going.
     let desk = c.args.self.now in
     let header = c.args.header in
     let body = c.args.body.now in
