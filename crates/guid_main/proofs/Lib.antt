@@ -7,3 +7,4 @@ pub mod ApplyLemmas
 pub mod PostLemmas
 pub mod UnitStands
 pub mod PieceLemmas
+pub mod PieceStands

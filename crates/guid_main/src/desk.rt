@@ -1,5 +1,5 @@
 // The desktop: one guest's session with its windows, and the picture of them.
-ghost use Rattle.std.specs.Prelude.{◌≡◌, ℕ, ◌<◌, ◌≤◌, ◌+◌, List, [], length, drop, IfOk, IfSome, MatchOption, true, false};
+ghost use Rattle.std.specs.Prelude.{◌≡◌, ℕ, ◌<◌, ◌≤◌, ◌+◌, ◌*◌, List, [], length, drop, IfOk, IfSome, MatchOption, true, false};
 ghost use Rattle.gui_wire.specs.declared.Header.{Header};
 ghost use Rattle.desk_laws.specs.declared.setup.Setup.{Setup};
 ghost use Rattle.desk_laws.specs.Sizes.{Sizes};
@@ -8,13 +8,15 @@ ghost use Rattle.desk_laws.specs.Items.{FitsItem};
 ghost use Rattle.desk_laws.specs.Stream.{Word, Whole, head_fault, cut};
 ghost use Rattle.desk_laws.specs.Effects.{greeting};
 ghost use Rattle.desk_laws.specs.Picture.{picture};
+ghost use Rattle.desk_laws.specs.Frames.{counted};
+ghost use Rattle.guid_main.specs.OutputGrammar.{painted_after};
 ghost use Rattle.desk_laws.specs.Scene.{Ended, replies};
 ghost use Rattle.desk_laws.specs.State.{DeskState, opening};
 ghost use Rattle.desk_laws.specs.Steps.{take_unit, take_bytes, is_nil, step};
 ghost use Rattle.io_ports.specs.Posts.{Leads};
 ghost use Rattle.guid_main.specs.DeskPosts.{guest_posts};
 ghost use Rattle.guid_main.specs.PieceSteps.{taken_from, TookOne, TookAll};
-ghost use Rattle.guid_main.specs.DeskStands.{Stands, StandsWith, LeadsTo, picture_of, pages_of, ended_desk, greeted_desk, stepped_of, summary_of};
+ghost use Rattle.guid_main.specs.DeskStands.{Stands, StandsWith, LeadsTo, picture_of, pages_of, ended_desk, greeted_desk, item_counted, stepped_of, summary_of};
 
 use crate::picture::Picture;
 use crate::stream::{Front, front_of};
@@ -188,8 +190,81 @@ impl Desk {
         ensures { (setup : Setup) (state : DeskState) → Stands setup self.old state → LeadsTo O.takes out.old out.new setup [] self.new (take_bytes setup 0 piece.now state) }
     {
         let is_whole = self.take_units(piece, out);
-        if !self.ended && !is_whole {
+        if self.ended {
+            return;
+        }
+        if !is_whole {
             self.end(Cause::StreamEnded { a: 0, b: 0 }, out);
+        }
+    }
+
+    // Counts an item.
+    fn count_item(&mut self)
+        ensures { self.new ≡ item_counted self.old }
+    {
+        self.items = self.items.saturating_add(1);
+    }
+
+    // Draws the picture anew: the background, and the windows from the bottom of the stack to its top.
+    fn draw(&mut self)
+        ensures desk { self.new ≡ record self.old { picture = self.new.picture } }
+        ensures sides { (self.new.picture.width ≡ self.old.picture.width) × (self.new.picture.height ≡ self.old.picture.height) }
+        ensures painted { self.new.picture.painted ≡ counted (self.old.picture.painted + self.old.picture.width * self.old.picture.height) }
+        ensures pixels { (setup : Setup) (state : DeskState) → Stands setup self.old state → self.new.picture.pixels ≡ picture setup state.scene.rows state.scene.layers }
+    {
+        let border = self.border.pixels();
+        let label = self.label;
+        self.picture.begin(self.background);
+        self.windows.draw(&mut self.picture, border, label);
+    }
+
+    /// Takes one item of the input with its piece: the bytes of a guest, else none. It answers what it
+    /// did: the picture is drawn anew exactly at Snap, and the input ended exactly at End. The guest is
+    /// told through the outlet what the item led to.
+    pub fn step<O: Outlet>(&mut self, item: &Item, piece: &[u8], out: &mut O) -> Stepped
+        requires range { FitsItem 1 (pages_of self.old) item.now (length piece.now) }
+        ensures stands { (setup : Setup) (state : DeskState) → Stands setup self.old state → Stands setup self.new (step setup item.now piece.now state).desk }
+        ensures posts { (setup : Setup) (state : DeskState) → Stands setup self.old state → Leads O.takes out.old (guest_posts (step setup item.now piece.now state).posts) out.new }
+        ensures drawn { item.now ≡ Item.Snap → (setup : Setup) (state : DeskState) → Stands setup self.old state → (picture_of self.new).pixels ≡ picture setup state.scene.rows state.scene.layers }
+        ensures painted { (setup : Setup) (state : DeskState) → Stands setup self.old state → (picture_of self.new).painted ≡ painted_after setup item.now (picture_of self.old).painted }
+        ensures answer { result ≡ stepped_of item.now }
+    {
+        match *item {
+            Item::Bytes { .. } => {
+                self.count_item();
+                self.take_piece(piece, out);
+                Stepped::Going
+            }
+            Item::Snap => {
+                self.count_item();
+                self.draw();
+                Stepped::Snap
+            }
+            Item::End => {
+                self.count_item();
+                Stepped::Ended
+            }
+            _ => Stepped::Going,
+        }
+    }
+
+    /// The picture, as it was drawn last: in the background colour alone where no Snap came yet.
+    pub fn picture(&self) -> &Picture
+        ensures { result.now ≡ picture_of self.now }
+    {
+        &self.picture
+    }
+
+    /// How much there was so far.
+    pub fn summary(&self) -> Summary
+        ensures is { result ≡ summary_of self.now }
+        ensures counts { (setup : Setup) (state : DeskState) → Stands setup self.now state → result ≡ record { items = state.counts.items; messages = state.counts.messages; glances = state.counts.glances; painted = (picture_of self.now).painted } }
+    {
+        Summary {
+            items: self.items,
+            messages: self.messages,
+            glances: 0,
+            painted: self.picture.painted(),
         }
     }
 }

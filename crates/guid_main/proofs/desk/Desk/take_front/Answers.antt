@@ -19,7 +19,7 @@ returns-in-Fault-clause-took g c = λ setup rest state stands.
 pub returns-in-Word-clause-took : goal.returns-in-Word-clause-took
 returns-in-Word-clause-took g c = λ setup rest state stands.
     let bytes = c.args.bytes.now in
-    took-unit g.O.Outlet.takes c.args.out.now c.take_word.new.out setup rest c.args.self.now c.take_word.new.self bytes (drop 4 bytes) state (Word c.in-Word.word)
+    took-unit g.O.Outlet.takes c.args.out.now c.take_word.new.out setup rest c.args.self.now c.take_word.new.self bytes (drop 4 bytes) state (Word c.in-Word.word) c.if-self.false
     c.in-Word.ensures.front (c.take_word.ensures.took setup rest state stands c.if-self.false) c.take_word.ensures.greeted
 
 pub returns-in-Message-clause-took : goal.returns-in-Message-clause-took
@@ -31,6 +31,6 @@ returns-in-Message-clause-took g c = λ setup rest state stands.
     let size : 12 + header.len - 12 ≡ header.len = omega arith in
     let P : List ℕ → Type 0 = λ b. LeadsTo g.O.Outlet.takes c.args.out.now c.take_message.new.out setup rest c.take_message.new.self (take_unit setup 0 (Whole header b) state) in
     let is : front c.args.self.now.greeted bytes ≡ Takes (Whole header body) (drop (12 + header.len) bytes) = c.in-Message.ensures.front ∙ ap (Takes (Whole header body)) behind in
-    took-unit g.O.Outlet.takes c.args.out.now c.take_message.new.out setup rest c.args.self.now c.take_message.new.self bytes (drop (12 + header.len) bytes) state (Whole header body)
+    took-unit g.O.Outlet.takes c.args.out.now c.take_message.new.out setup rest c.args.self.now c.take_message.new.self bytes (drop (12 + header.len) bytes) state (Whole header body) c.if-self.false
     is (subst P (ap (λ n. take n (drop 12 bytes)) size) (c.take_message.ensures.took setup rest state stands c.if-self.false))
     (λ _. c.take_message.ensures.greeted ∙ front-greets c.args.self.now.greeted bytes (Whole header body) (drop (12 + header.len) bytes) is)
