@@ -6,6 +6,7 @@ use Rattle.desk_laws.specs.declared.setup.Setup.{Setup}
 use Rattle.desk_laws.specs.declared.item.Item.{Item}
 use Rattle.desk_laws.specs.declared.item.Item.TheVariants as items
 use Rattle.desk_laws.specs.Picture.{picture}
+use Rattle.desk_laws.specs.Scene.{Counts}
 use Rattle.desk_laws.specs.State.{DeskState, count_item}
 use Rattle.desk_laws.specs.Steps.{step}
 use Rattle.io_ports.specs.declared.source.Failed.{Failed}
@@ -16,7 +17,7 @@ use Rattle.guid_main.specs.declared.desk.Desk.{Desk}
 use Rattle.guid_main.specs.declared.desk.Summary.{Summary}
 use Rattle.guid_main.specs.declared.desk.Stepped.{Stepped}
 use Rattle.guid_main.specs.declared.desk.Stepped.TheVariants as stepped
-use Rattle.guid_main.specs.DeskStands.{Stands, picture_of, stepped_of, summary_of}
+use Rattle.guid_main.specs.DeskStands.{Stands, picture_of, stepped_of}
 use Rattle.guid_main.specs.ItemWrites.{Wrote, StepWrites, guest_bytes_of, step_bytes}
 use Rattle.guid_main.specs.OutputGrammar.{picture_record, summary_record, painted_after}
 use Rattle.guid_main.specs.PictureView.{PictureView}
@@ -159,9 +160,13 @@ item_snap setup p item piece state old new answer view r a b c f g h keeps keeps
       keeps_sink = on told.keeps_sink;
     }
 
+-- the counts, with that of the picture
+abbrev pub summary_with : Counts → ℕ → Summary
+summary_with counts painted = record { items = counts.items; messages = counts.messages; glances = counts.glances; painted = painted }
+
 pub item_ended : (setup : Setup) (item : Item) (piece : List ℕ) (state : DeskState) (old new : Desk) (answer : Stepped) (summary : Summary) (r : Result (Unit {0}) Failed) (a b c : Option (List ℕ)) (f g h : ℕ) (keeps keeps' : Type 0)
     → StepWrites {T = Stepped} setup item piece state old new (Ok answer) (guest_bytes_of setup item piece state) a b f g keeps → item ≡ items.End
-    → ((setup : Setup) (state : DeskState) → Stands setup new state → summary ≡ summary_of state.counts (picture_of new).painted)
+    → ((setup : Setup) (state : DeskState) → Stands setup new state → summary ≡ summary_with state.counts (picture_of new).painted)
     → Wrote r (summary_record (record { items = summary.items; messages = summary.messages; glances = summary.glances }) summary.painted) b c → HasCause g h r → (keeps → keeps')
     → StepWrites {T = Unit {0}} setup item piece state old new r (step_bytes (picture_of new).painted setup item piece state) a c f h keeps'
 item_ended setup item piece state old new answer summary r a b c f g h keeps keeps' told end sums wrote cause on =

@@ -11,5 +11,8 @@ pub mod Answers
 pub mod Writes
 pub mod PictureView
 pub mod DeskStands
-pub mod DeskValue
 pub mod ItemWrites
+pub mod WindowsView
+pub mod WindowChanges
+pub mod StreamFront
+pub mod PieceSteps

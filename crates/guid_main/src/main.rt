@@ -13,9 +13,11 @@ mod post_writer;
 mod replay_feed;
 mod run;
 mod status;
+mod stream;
 mod summary_writer;
 #[cfg(test)]
 mod tests;
+mod windows;
 
 use crate::run::run;
 use crate::status::Status;

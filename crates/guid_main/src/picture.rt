@@ -85,16 +85,18 @@ impl Picture {
         })
     }
 
-    /// Its width in pixels.
+    /// Its width in pixels, at most 8192.
     pub fn width(&self) -> u32
-        ensures { result ≡ self.now.width }
+        ensures is { result ≡ self.now.width }
+        ensures small { result ≤ 8192 }
     {
         self.width
     }
 
-    /// Its height in pixels.
+    /// Its height in pixels, at most 8192.
     pub fn height(&self) -> u32
         ensures is { result ≡ self.now.height }
+        ensures small { result ≤ 8192 }
         ensures whole { length self.now.pixels ≡ self.now.width * self.now.height }
     {
         self.height

@@ -34,7 +34,7 @@ pub returns-in-Ok-Ended : goal.returns-in-Ok-Ended
 returns-in-Ok-Ended g c = λ setup state stands.
     let end = end_is c.args.item.now (sym c.in-Ok-Ended.field-0-is ∙ c.in-Ok-Ended.ensures.answer) in
     item_ended setup c.args.item.now c.args.piece.now state _ _ _ c.summary.result c.put_summary.result _ _ _ _ _ _ _ _ (c.in-Ok-Ended.ensures.writes setup state stands) end
-    c.summary.ensures
+    c.summary.ensures.counts
     (wrote_of c.put_summary.result _ _ _ c.put_summary.ensures.ok c.put_summary.ensures.err) c.put_summary.ensures.cause
     (λ kept. g.met.K.Sink.keeps_on _ _ _ kept c.put_summary.ensures.keeps)
 

@@ -1,0 +1,89 @@
+-- Windows drawn onto a picture, one after the other.
+use Rattle.std.proofs.Common.{◌≡◌, ℕ, zero, suc, ◌+◌, ◌*◌, ◌<◌, ◌≤◌, Bool, true, false, ◌&&◌, List, [], ◌∷◌, ◌++◌, map, Option, Some, None, refl, sym, ◌∙◌, ap, arith, ℤ, pos}
+use Rattle.std.specs.List.{cons_option}
+use Rattle.std.specs.Prelude.{filter_map, if◌then◌else◌, int_le, int_lt, ◌-ℤ◌, ◌+ℤ◌}
+use Rattle.std.proofs.lemmas.Bool.{and_parts, and_from}
+use Rattle.std.proofs.lemmas.Int.{ints}
+use Rattle.std.proofs.lemmas.List.{append-nil}
+use Rattle.std.proofs.lemmas.List.Elements.{filter_map-append}
+use Rattle.gui_num.specs.declared.Point.{Point}
+use Rattle.gui_num.specs.declared.Rect.{Rect}
+use Rattle.gui_num.specs.Rects.{has, grown, on_side}
+use Rattle.desk_laws.specs.declared.row_id.RowId.{RowId}
+use Rattle.desk_laws.specs.declared.setup.Setup.{Setup}
+use Rattle.desk_laws.specs.Rows.{Row, is_shown, outer, row_at}
+use Rattle.desk_laws.specs.Layers.{last_that}
+use Rattle.desk_laws.specs.Picture.{pixels, colour_by, colour_read, label_of, content_under}
+use Rattle.desk_laws.proofs.PaintLemmas.{last_that-push, blank-content}
+use Rattle.guid_main.specs.declared.windows.Window.{Window}
+use Rattle.guid_main.specs.WindowsView.{row_of, id_in, colour_under}
+
+pub map-agree : {X : Type 0} (f g : X → ℕ) → ((x : X) → f x ≡ g x) → (xs : List X) → map f xs ≡ map g xs
+map-agree f g same [] = refl
+map-agree f g same (x ∷ xs) = ap (λ y. y ∷ map f xs) (same x) ∙ ap (λ ys. g x ∷ ys) (map-agree f g same xs)
+
+-- a picture's colours, where its sides are named otherwise
+pub same-sides : (f : Point → ℕ) (w h w' h' : ℕ) (cs : List ℕ) → w' ≡ w → h' ≡ h → cs ≡ map f (pixels 0 0 w h) → cs ≡ map f (pixels 0 0 w' h')
+same-sides f w h w' h' cs wide high is = is ∙ ap (λ n. map f (pixels 0 0 n h)) (sym wide) ∙ ap (λ n. map f (pixels 0 0 w' n)) (sym high)
+
+side-grown : (a : ℤ) (n b : ℕ) (p : ℤ) → on_side a n p ≡ true → on_side (a -ℤ pos b) (n + 2 * b) p ≡ true
+side-grown a n b p is = grind (arith, ints)
+
+-- a place lies in its outer rectangle
+pub in-outer : (r : Rect) (b : ℕ) (p : Point) → has r p ≡ true → has (grown r b) p ≡ true
+in-outer r b p is =
+    let parts = and_parts (on_side r.x r.w p.x) (on_side r.y r.h p.y) is in
+    and_from _ _ (side-grown r.x r.w b p.x parts.0) (side-grown r.y r.h b p.y parts.1)
+
+-- the border drawn, and then the content over it
+pub content-over : (o c : Bool) (grey label below : ℕ) → (c ≡ true → o ≡ true) → (if c then grey else (if o then label else below)) ≡ (if o then (if c then grey else label) else below)
+content-over true c grey label below lies = refl
+content-over false false grey label below lies = refl
+content-over false true grey label below lies = let e = lies refl in cc
+
+-- the colour of a window's pixel
+window-colour : (setup : Setup) (w : Window) (label : ℕ) (p : Point) → label_of setup 0 ≡ label
+    → colour_by setup (Some (row_of w)) p ≡ (if has w.place p then 0x808080 else label)
+window-colour setup w label p is =
+    ap (λ o. if has w.place p then colour_read o else label_of setup 0) (blank-content (row_of w) (w.place.w * w.place.h) p refl)
+    ∙ ap (λ l. if has w.place p then 0x808080 else l) is
+
+-- whether a row is the topmost one at a pixel, if it is drawn last
+abbrev is_over : Setup → Point → Row → Bool
+is_over setup p row = is_shown row && has (outer setup.border row) p
+
+abbrev rows_of : List Row → List RowId → List Row
+rows_of rows ids = filter_map (λ id. row_at id rows) ids
+
+-- a window more is drawn
+pub window-over : (setup : Setup) (rows : List Row) (ids : List RowId) (id : RowId) (w : Window) (border label : ℕ) (p : Point)
+    → setup.border ≡ border → label_of setup 0 ≡ label → row_at id rows ≡ Some (row_of w)
+    → (if w.mapped && has (grown w.place border) p then (if has w.place p then 0x808080 else label) else colour_under setup rows ids p) ≡ colour_under setup rows (ids ++ id ∷ []) p
+window-over setup rows ids id w border label p wide told found =
+    let below = last_that (is_over setup p) (rows_of rows ids) in
+    let more : rows_of rows (ids ++ id ∷ []) ≡ rows_of rows ids ++ row_of w ∷ [] =
+    filter_map-append (λ i. row_at i rows) ids (id ∷ []) ∙ ap (λ o. rows_of rows ids ++ cons_option o []) found in
+    let top : last_that (is_over setup p) (rows_of rows (ids ++ id ∷ [])) ≡ (if is_over setup p (row_of w) then Some (row_of w) else below) =
+    ap (last_that (is_over setup p)) more ∙ last_that-push (is_over setup p) (rows_of rows ids) (row_of w) in
+    let test : is_over setup p (row_of w) ≡ (w.mapped && has (grown w.place border) p) =
+    shown w.mapped (has (grown w.place setup.border) p) ∙ ap (λ b. w.mapped && has (grown w.place b) p) wide in
+    sym (ap (λ o. colour_by setup o p) top
+    ∙ ap (λ b. colour_by setup (if b then Some (row_of w) else below) p) test
+    ∙ chosen (w.mapped && has (grown w.place border) p) below
+    ∙ ap (λ c. if w.mapped && has (grown w.place border) p then c else colour_by setup below p) (window-colour setup w label p told))
+  where
+    shown : (m h : Bool) → ((m && true) && h) ≡ (m && h)
+    shown true h = refl
+    shown false h = refl
+
+    chosen : (b : Bool) (below : Option Row) → colour_by setup (if b then Some (row_of w) else below) p ≡ (if b then colour_by setup (Some (row_of w)) p else colour_by setup below p)
+    chosen true below = refl
+    chosen false below = refl
+
+-- an id without a row draws nothing
+pub none-over : (setup : Setup) (rows : List Row) (ids : List RowId) (id : RowId) (p : Point) → row_at id rows ≡ None
+    → colour_under setup rows ids p ≡ colour_under setup rows (ids ++ id ∷ []) p
+none-over setup rows ids id p missing =
+    let same : rows_of rows (ids ++ id ∷ []) ≡ rows_of rows ids =
+    filter_map-append (λ i. row_at i rows) ids (id ∷ []) ∙ ap (λ o. rows_of rows ids ++ cons_option o []) missing ∙ append-nil (rows_of rows ids) in
+    sym (ap (λ rs. colour_by setup (last_that (is_over setup p) rs) p) same)
