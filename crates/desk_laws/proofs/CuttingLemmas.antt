@@ -1,10 +1,10 @@
 -- The cut of a guest's bytes, by how they begin.
-use Rattle.std.proofs.Common.{◌≡◌, ℕ, zero, suc, ◌<◌, ◌≤◌, Bool, true, false, List, [], ◌∷◌, ◌++◌, length, drop, Option, Some, None, refl, sym, ◌∙◌, ap, arith, length-drop}
+use Rattle.std.proofs.Common.{◌≡◌, ℕ, zero, suc, ◌<◌, ◌≤◌, Bool, true, false, List, [], ◌∷◌, length, Option, Some, None, refl, ◌∙◌, ap, arith, length-drop}
 use Rattle.std.specs.Prelude.{◌||◌}
 use Rattle.std.proofs.lemmas.Bool.Decides.{nat_tests}
 use Rattle.gui_wire.specs.declared.Header.{Header}
 use Rattle.desk_laws.specs.declared.cause.Cause.{Cause}
-use Rattle.desk_laws.specs.Stream.{StreamUnit, Word, Stop, Whole, Front, Wait, Fault, Takes, front, front_of, Cut, unit_and, cut_within, cut, is_greeting}
+use Rattle.desk_laws.specs.Stream.{StreamUnit, Word, Stop, Whole, Front, Wait, Fault, Takes, front, front_of, unit_and, cut_within, cut, is_greeting}
 
 -- what a unit leaves is shorter
 front_of-shorter : (c : Option Cause) (h : Header) (s : List ℕ) (u : StreamUnit) (r : List ℕ) → front_of c h s ≡ Takes u r → length r ≤ length s

@@ -1,14 +1,14 @@
 -- The lists of the layers, as they follow the rows.
-use Rattle.std.proofs.Common.{◌≡◌, ℕ, Bool, true, false, ◌&&◌, ◌||◌, not, List, [], ◌∷◌, ◌++◌, map, refl, sym, ◌∙◌, ap, arith}
+use Rattle.std.proofs.Common.{◌≡◌, Bool, true, false, ◌||◌, not, List, [], ◌∷◌, ◌++◌, map, refl, sym, ◌∙◌, ap}
 use Rattle.std.specs.Prelude.{filter, if◌then◌else◌}
-use Rattle.std.specs.List.{list_any, All}
+use Rattle.std.specs.List.{All}
 use Rattle.std.proofs.lemmas.List.{append-nil, map-append}
-use Rattle.std.proofs.lemmas.List.Elements.{All-nil, All-cons, All-head, All-tail, All-weaker, All-append, filter_agree, filter-append}
+use Rattle.std.proofs.lemmas.List.Elements.{All-head, All-tail, All-weaker, filter-append}
 use Rattle.std.proofs.lemmas.List.Folds.{list_any-append}
-use Rattle.std.proofs.lemmas.Bool.{or_left, or_right, or_cases}
+use Rattle.std.proofs.lemmas.Bool.{or_left, or_right}
 use Rattle.desk_laws.specs.declared.row_id.RowId.{RowId}
 use Rattle.desk_laws.specs.Rows.{Row, id_of, same_row}
-use Rattle.desk_laws.specs.Layers.{Layers, is_in, HaveSame, layer_of, staying, coming}
+use Rattle.desk_laws.specs.Layers.{is_in, HaveSame, staying, coming}
 use Rattle.desk_laws.proofs.RowLemmas.{is_in-members}
 
 pub filter-all : {X : Type 0} (p : X → Bool) (xs : List X) → All (λ x. p x ≡ true) xs → filter p xs ≡ xs
@@ -52,14 +52,14 @@ layer-gains before after row members same new =
     let here : HaveSame members (b ++ a) = λ x. same x ∙ ap (λ xs. is_in xs x) (map-append id_of before after) in
     let known : (x : RowId) → is_in members x ≡ (is_in b x || is_in a x) = λ x. here x ∙ list_any-append (same_row x) b a in
     let stay : filter (is_in (b ++ id ∷ a)) members ≡ members =
-        all-stay (b ++ id ∷ a) members (λ x h. list_any-append (same_row x) b (id ∷ a) ∙ in_longer (is_in b x) (is_in a x) (same_row x id) (sym (known x) ∙ h)) in
+    all-stay (b ++ id ∷ a) members (λ x h. list_any-append (same_row x) b (id ∷ a) ∙ in_longer (is_in b x) (is_in a x) (same_row x id) (sym (known x) ∙ h)) in
     let gone : filter (λ x. not (is_in members x)) b ≡ [] = none-come b members (λ x h. known x ∙ or_left (is_in b x) (is_in a x) h) in
     let gone' : filter (λ x. not (is_in members x)) a ≡ [] = none-come a members (λ x h. known x ∙ or_right (is_in b x) (is_in a x) h) in
     let come : filter (λ x. not (is_in members x)) (b ++ id ∷ a) ≡ id ∷ [] =
-        filter-append (λ x. not (is_in members x)) b (id ∷ a)
-        ∙ ap (λ xs. xs ++ filter (λ x. not (is_in members x)) (id ∷ a)) gone
-        ∙ ap (λ v. if not v then id ∷ filter (λ x. not (is_in members x)) a else filter (λ x. not (is_in members x)) a) new
-        ∙ ap (λ xs. id ∷ xs) gone' in
+    filter-append (λ x. not (is_in members x)) b (id ∷ a)
+    ∙ ap (λ xs. xs ++ filter (λ x. not (is_in members x)) (id ∷ a)) gone
+    ∙ ap (λ v. if not v then id ∷ filter (λ x. not (is_in members x)) a else filter (λ x. not (is_in members x)) a) new
+    ∙ ap (λ xs. id ∷ xs) gone' in
     ap (λ ids. filter (is_in ids) members ++ filter (λ x. not (is_in members x)) ids) (map-append id_of before (row ∷ after))
     ∙ ap (λ xs. xs ++ filter (λ x. not (is_in members x)) (b ++ id ∷ a)) stay ∙ ap (λ xs. members ++ xs) come
   where

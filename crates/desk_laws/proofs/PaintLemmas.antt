@@ -1,12 +1,7 @@
 -- The topmost row, one row after the other from the bottom.
-use Rattle.std.proofs.Common.{◌≡◌, ℕ, zero, suc, ◌+◌, ◌*◌, ◌<◌, ◌≤◌, Bool, true, false, ◌&&◌, List, [], ◌∷◌, ◌++◌, replicate, Option, Some, None, refl, sym, ◌∙◌, ap, arith}
-use Rattle.std.specs.Prelude.{filter_map, slice_get, if◌then◌else◌, nat_lt, int_le, int_lt, ℤ, pos, ◌-ℤ◌}
-use Rattle.std.proofs.lemmas.Int.{ints}
-use Rattle.std.proofs.lemmas.List.{append-nil}
-use Rattle.std.proofs.lemmas.List.Elements.{filter_map-append}
+use Rattle.std.proofs.Common.{◌≡◌, ℕ, zero, suc, ◌+◌, ◌*◌, Bool, true, false, ◌&&◌, List, [], ◌∷◌, ◌++◌, replicate, Some, None, refl, ◌∙◌, ap}
+use Rattle.std.specs.Prelude.{slice_get, if◌then◌else◌, nat_lt, ◌-ℤ◌}
 use Rattle.gui_num.specs.declared.Point.{Point}
-use Rattle.gui_num.specs.declared.Rect.{Rect}
-use Rattle.gui_num.specs.Rects.{has, grown, on_side}
 use Rattle.desk_laws.specs.Rows.{Row, content_of, content_at}
 use Rattle.desk_laws.specs.Layers.{or_else, last_that}
 use Rattle.desk_laws.specs.Picture.{content_under, nat_of}
@@ -34,5 +29,6 @@ blank-content row n p blank = at (nat_of (p.x -ℤ row.place.x)) (nat_of (p.y -�
     by_test : (b : Bool) (i : ℕ) → (if b then content_of (slice_get row.contents i) else None) ≡ None
     by_test true i = ap (λ cs. content_of (slice_get cs i)) blank ∙ content-none n i
     by_test false i = refl
+
     at : (x y : ℕ) → content_at row x y ≡ None
     at x y = by_test (nat_lt x row.place.w && nat_lt y row.place.h) (y * row.place.w + x)

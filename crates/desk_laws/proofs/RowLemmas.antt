@@ -1,14 +1,14 @@
 -- Rows by their ids, and a change of one of them.
-use Rattle.std.proofs.Common.{◌≡◌, ℕ, zero, suc, ◌<◌, Bool, true, false, ◌&&◌, ◌||◌, not, ◌==◌, List, [], ◌∷◌, ◌++◌, length, get_or, take, drop, map, Option, Some, None, refl, sym, ◌∙◌, ap, arith, option_map}
-use Rattle.std.specs.Prelude.{filter, find, position, if◌then◌else◌}
-use Rattle.std.specs.List.{list_any, All}
+use Rattle.std.proofs.Common.{◌≡◌, ℕ, Bool, true, false, ◌&&◌, ◌||◌, not, List, [], ◌∷◌, ◌++◌, map, refl, sym, ◌∙◌, ap, arith}
+use Rattle.std.specs.Prelude.{if◌then◌else◌}
+use Rattle.std.specs.List.{All}
 use Rattle.std.proofs.lemmas.List.{map-append}
-use Rattle.std.proofs.lemmas.List.Elements.{All-nil, All-cons, All-head, All-tail, All-weaker}
+use Rattle.std.proofs.lemmas.List.Elements.{All-nil, All-cons, All-weaker}
 use Rattle.std.proofs.lemmas.List.Folds.{map_fixed, list_any-append}
-use Rattle.std.proofs.lemmas.Bool.{and_parts, or_parts, or_cases, not-true, or_from}
+use Rattle.std.proofs.lemmas.Bool.{and_parts, or_parts, not-true, or_from}
 use Rattle.std.proofs.lemmas.Bool.Decides.{nat_tests}
 use Rattle.desk_laws.specs.declared.row_id.RowId.{RowId}
-use Rattle.desk_laws.specs.Rows.{Row, id_of, same_row, is_row, mine, row_with}
+use Rattle.desk_laws.specs.Rows.{Row, id_of, same_row, is_row}
 use Rattle.desk_laws.specs.Layers.{is_in, are_apart}
 use Rattle.desk_laws.specs.Effects.{replaced_in, of_guest}
 
@@ -50,7 +50,7 @@ apart-push (b ∷ ids) id apart new =
     let parts = and_parts (not (is_in ids b)) (are_apart ids) apart in
     let out = or_parts (same_row id b) (is_in ids id) new in
     let still : is_in (ids ++ id ∷ []) b ≡ false =
-        list_any-append (same_row b) ids (id ∷ []) ∙ or_from _ _ (not-true _ parts.0) (or_from _ _ (same_row-swapped b id ∙ out.0) refl) in
+    list_any-append (same_row b) ids (id ∷ []) ∙ or_from _ _ (not-true _ parts.0) (or_from _ _ (same_row-swapped b id ∙ out.0) refl) in
     ap (λ v. not v && are_apart (ids ++ id ∷ [])) still ∙ apart-push ids id parts.1 out.1
 
 -- ---- one row replaced

@@ -1,5 +1,5 @@
 -- What the rules of a setup say of its numbers.
-use Rattle.std.proofs.Common.{◌≡◌, ℕ, zero, suc, nat_le, get_or, ◌+◌, ◌≤◌, Bool, true, false, ◌&&◌, List, [], ◌∷◌, length, Option, None, refl, arith}
+use Rattle.std.proofs.Common.{◌≡◌, ℕ, zero, suc, nat_le, get_or, ◌+◌, ◌≤◌, Bool, true, false, List, [], ◌∷◌, length, None, refl}
 use Rattle.std.proofs.lemmas.Bool.{and_parts, leb-true, eqb-true}
 use Rattle.desk_laws.specs.declared.setup.Setup.{Setup}
 use Rattle.desk_laws.specs.Rules.{within, rules, first_false, first_broken}

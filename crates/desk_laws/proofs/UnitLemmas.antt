@@ -1,14 +1,12 @@
 -- What one unit does to the desktop, by its verdict.
-use Rattle.std.proofs.Common.{◌≡◌, ℕ, ◌<◌, Bool, List, [], ◌∷◌, ◌++◌, length, get_or, set, Option, Some, None, refl, sym, ◌∙◌, ap, arith, get_or-set_same}
-use Rattle.std.proofs.lemmas.List.{append-nil}
+use Rattle.std.proofs.Common.{◌≡◌, ℕ, ◌<◌, List, [], ◌∷◌, length, Some, None, refl, ◌∙◌, ap, get_or-set_same}
 use Rattle.desk_laws.specs.declared.setup.Setup.{Setup}
 use Rattle.desk_laws.specs.declared.cause.Cause.{Cause}
 use Rattle.desk_laws.specs.Sizes.{sizes_of}
 use Rattle.desk_laws.specs.Stream.{StreamUnit}
 use Rattle.desk_laws.specs.Rows.{mine}
 use Rattle.desk_laws.specs.Effects.{Verdict, Effect, verdict, carried_out}
-use Rattle.desk_laws.specs.Frames.{PortState}
-use Rattle.desk_laws.specs.State.{DeskState, StepOutcome, Session, session_of, with_session, stays, and_next}
+use Rattle.desk_laws.specs.State.{DeskState, Session, session_of, with_session, stays, and_next}
 use Rattle.desk_laws.specs.Steps.{take_unit, take_units, unit_of_open, unit_done}
 
 -- the effect of a verdict on the desktop as it is

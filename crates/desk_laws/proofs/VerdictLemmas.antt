@@ -1,25 +1,23 @@
 -- The verdicts on CREATE and MAP, so far.
-use Rattle.std.proofs.Common.{◌≡◌, ℕ, ◌<◌, ◌^◌, Bool, true, false, ◌&&◌, ◌||◌, not, ◌==◌, nat_lt, List, [], ◌∷◌, length, Option, Some, None, is_some, refl, sym, ◌∙◌, ap, arith, ℤ}
-use Rattle.std.specs.Prelude.{if◌then◌else◌, int_le}
+use Rattle.std.proofs.Common.{◌≡◌, ℕ, ◌^◌, Bool, true, false, ◌&&◌, not, ◌==◌, nat_lt, List, [], ◌∷◌, length, Option, Some, None, is_some, refl, ◌∙◌, ap, arith, ℤ}
+use Rattle.std.specs.Prelude.{if◌then◌else◌}
 use Rattle.std.proofs.lemmas.Bool.Decides.{nat_tests}
 use Rattle.std.proofs.lemmas.Int.{ints}
 use Rattle.gui_num.specs.declared.Rect.{Rect}
 use Rattle.gui_wire.specs.declared.Header.{Header}
 use Rattle.gui_wire.specs.AgentMessages as agent
-use Rattle.desk_laws.specs.declared.cause.Cause.{Cause}
-use Rattle.desk_laws.specs.declared.cause.Cause.TheVariants.{BadType, BadRange, WindowExists, TooManyWindows, UnknownWindow}
+use Rattle.desk_laws.specs.declared.cause.Cause.TheVariants.{BadType, BadRange, TooManyWindows}
 use Rattle.desk_laws.specs.Sizes.{Sizes}
-use Rattle.desk_laws.specs.Stage.{told_cause}
 use Rattle.desk_laws.specs.Rows.{Row, row_with}
 use Rattle.desk_laws.specs.Ranges.{rect_in_range}
-use Rattle.desk_laws.specs.Effects.{admits, Change, Added, Replaced, Verdict, Ends, Goes, unless, first_of_causes, exists_already, message_to, message_verdict, told_verdict, created, id_if, isnt_zero, same_rect, same_z, mapped_row, tells_move, tells_place}
+use Rattle.desk_laws.specs.Effects.{admits, Change, Added, Replaced, Verdict, Ends, Goes, unless, first_of_causes, exists_already, message_to, message_verdict, told_verdict, created, id_if, isnt_zero, same_rect, same_z, tells_place}
 
 -- the verdict on a CREATE, from the tests that it makes
 created_by : ℕ → ℕ → ℕ → ℕ → Verdict → Bool → Bool → Bool → Option Row → Bool → Verdict
 created_by window width height kind v zero_id narrow low known room =
     told_verdict kind
     (unless (first_of_causes ((if zero_id then Some (BadRange 0 window) else None) ∷ (if narrow then None else Some (BadRange 3 width)) ∷ (if low then None else Some (BadRange 4 height)) ∷ []))
-        (unless (first_of_causes (exists_already known window ∷ (if room then None else Some (TooManyWindows window 1024)) ∷ [])) v))
+    (unless (first_of_causes (exists_already known window ∷ (if room then None else Some (TooManyWindows window 1024)) ∷ [])) v))
 
 -- a verdict where a message is accepted, else the end of the session
 abbrev pub chosen : ℕ → Verdict → Bool → Verdict
@@ -40,8 +38,8 @@ created-by window width height kind change answers false true true None true = r
 pub create-verdict : (sizes : Sizes) (guest minor : ℕ) (own : List Row) (header : Header) (x y width height parent asked : ℕ)
     → told_verdict header.kind (message_verdict sizes guest minor own header (Some (agent.Create x y width height parent asked)))
     ≡ chosen header.kind
-        (Goes (Added (created guest header.window (rect_in_range x y width height) (id_if (is_some (row_with parent own)) parent) (isnt_zero asked))) [])
-        (admits header.window width height own)
+    (Goes (Added (created guest header.window (rect_in_range x y width height) (id_if (is_some (row_with parent own)) parent) (isnt_zero asked))) [])
+    (admits header.window width height own)
 unfolding created_by
 create-verdict sizes guest minor own header x y width height parent asked =
     created-by header.window width height header.kind _ [] (header.window == 0) (nat_lt width (2 ^ 31)) (nat_lt height (2 ^ 31)) (row_with header.window own) (nat_lt (length own) 1024)

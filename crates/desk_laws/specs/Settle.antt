@@ -1,5 +1,5 @@
 -- Focus and hover, and what is granted where they changed.
-use Rattle.std.specs.Prelude.{ℕ, List, [], ◌∷◌, ◌++◌, Option, Some, None, Bool, true, false, if◌then◌else◌, option_map, pos, ◌-ℤ◌}
+use Rattle.std.specs.Prelude.{List, [], ◌∷◌, ◌++◌, Option, Some, None, Bool, true, false, if◌then◌else◌, option_map, pos, ◌-ℤ◌}
 use Rattle.gui_num.specs.declared.Point.{Point}
 use Rattle.gui_num.specs.Rects.{has}
 use Rattle.desk_laws.specs.declared.row_id.RowId.{RowId}

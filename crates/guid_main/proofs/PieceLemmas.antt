@@ -97,9 +97,9 @@ along-more takes first out out' setup rest old new bytes behind whole along took
       stands = took.leads.0;
       left = λ e. sym (took.left e) ∙ along.left took.going;
       posts = λ end leads.
-        let Q : List Post → Type 0 = λ ps. Leads takes out ps end in
-        let R : StepOutcome → Type 0 = λ o. Leads takes out (guest_posts o.posts) end in
-        along.posts end (subst R (sym took.all) (subst Q (sym (guest-append took.outcome.posts more.posts)) (leads-append takes (guest_posts took.outcome.posts) (guest_posts more.posts) out out' end took.leads.1 leads)));
+          let Q : List Post → Type 0 = λ ps. Leads takes out ps end in
+          let R : StepOutcome → Type 0 = λ o. Leads takes out (guest_posts o.posts) end in
+          along.posts end (subst R (sym took.all) (subst Q (sym (guest-append took.outcome.posts more.posts)) (leads-append takes (guest_posts took.outcome.posts) (guest_posts more.posts) out out' end took.leads.1 leads)));
       end_state = along.end_state ∙ ap (λ (o : StepOutcome). o.desk) took.all;
     }
 

@@ -42,13 +42,20 @@ ends-stands setup rest desk state input cause stands =
     let put : session_of 0 (with_session 0 session state) ≡ session = session-put 0 session state (there setup rest desk state stands) in
     record {
       numbers = record {
-        width = stands.numbers.width; height = stands.numbers.height; border = stands.numbers.border; pages = stands.numbers.pages;
-        background = stands.numbers.background; label = stands.numbers.label; wide = stands.numbers.wide; high = stands.numbers.high; narrow = stands.numbers.narrow;
+        width = stands.numbers.width;
+        height = stands.numbers.height;
+        border = stands.numbers.border;
+        pages = stands.numbers.pages;
+        background = stands.numbers.background;
+        label = stands.numbers.label;
+        wide = stands.numbers.wide;
+        high = stands.numbers.high;
+        narrow = stands.numbers.narrow;
       };
       rows = rows;
       normal =
-        ap (λ rs. staying (layer_of false rs) state.scene.layers.normal ++ coming (layer_of false rs) state.scene.layers.normal) rows
-        ∙ ap (λ ids. staying (layer_of false []) ids ++ coming (layer_of false []) ids) stands.normal ∙ change.normal;
+          ap (λ rs. staying (layer_of false rs) state.scene.layers.normal ++ coming (layer_of false rs) state.scene.layers.normal) rows
+          ∙ ap (λ ids. staying (layer_of false []) ids ++ coming (layer_of false []) ids) stands.normal ∙ change.normal;
       over = over-empty [] (changed 0 Cleared state.scene.rows) state.scene.layers.over rows stands.over;
       sound = change.sound;
       one = length-set state.sessions 0 session ∙ stands.one;
@@ -80,8 +87,15 @@ goes-stands setup rest desk state header body change answers new stands changes 
     let rows : changed 0 change state.scene.rows ≡ map row_of new.table = ap (changed 0 change) stands.rows ∙ changes.rows in
     record {
       numbers = record {
-        width = stands.numbers.width; height = stands.numbers.height; border = stands.numbers.border; pages = stands.numbers.pages;
-        background = stands.numbers.background; label = stands.numbers.label; wide = stands.numbers.wide; high = stands.numbers.high; narrow = stands.numbers.narrow;
+        width = stands.numbers.width;
+        height = stands.numbers.height;
+        border = stands.numbers.border;
+        pages = stands.numbers.pages;
+        background = stands.numbers.background;
+        label = stands.numbers.label;
+        wide = stands.numbers.wide;
+        high = stands.numbers.high;
+        narrow = stands.numbers.narrow;
       };
       rows = rows;
       normal = normal-after setup rest desk state change new stands changes;
@@ -107,8 +121,15 @@ greets-stands setup rest desk state word minor answers stands =
     let kept : counted (desk.messages + 0) ≡ desk.messages = omega (arith, stands.in_range) in
     record {
       numbers = record {
-        width = stands.numbers.width; height = stands.numbers.height; border = stands.numbers.border; pages = stands.numbers.pages;
-        background = stands.numbers.background; label = stands.numbers.label; wide = stands.numbers.wide; high = stands.numbers.high; narrow = stands.numbers.narrow;
+        width = stands.numbers.width;
+        height = stands.numbers.height;
+        border = stands.numbers.border;
+        pages = stands.numbers.pages;
+        background = stands.numbers.background;
+        label = stands.numbers.label;
+        wide = stands.numbers.wide;
+        high = stands.numbers.high;
+        narrow = stands.numbers.narrow;
       };
       rows = stands.rows;
       normal = normal-after setup rest desk state Same desk.windows stands changes;
@@ -127,8 +148,15 @@ greets-stands setup rest desk state word minor answers stands =
 pub counts-stands : (setup : Setup) (rest : List ℕ) (desk : Desk) (state : DeskState) → StandsWith setup rest desk state → StandsWith setup rest (item_counted desk) (count_item state)
 counts-stands setup rest desk state stands = record {
   numbers = record {
-    width = stands.numbers.width; height = stands.numbers.height; border = stands.numbers.border; pages = stands.numbers.pages;
-    background = stands.numbers.background; label = stands.numbers.label; wide = stands.numbers.wide; high = stands.numbers.high; narrow = stands.numbers.narrow;
+    width = stands.numbers.width;
+    height = stands.numbers.height;
+    border = stands.numbers.border;
+    pages = stands.numbers.pages;
+    background = stands.numbers.background;
+    label = stands.numbers.label;
+    wide = stands.numbers.wide;
+    high = stands.numbers.high;
+    narrow = stands.numbers.narrow;
   };
   rows = stands.rows;
   normal = stands.normal;

@@ -53,7 +53,7 @@ word-greets takes out out' setup rest desk new state word stands going major mad
     let answers = greeting (sizes_of setup) (word % 65536) in
     let v = Greets (word % 65536) answers in
     let is : verdict (sizes_of setup) 0 (session_of 0 state).minor (mine 0 state.scene.rows) (Word word) ≡ v =
-        ap (λ n. if n == 1 then v else Ends (BadVersion word 0)) major in
+    ap (λ n. if n == 1 then v else Ends (BadVersion word 0)) major in
     let taken : take_unit setup 0 (Word word) state ≡ went setup 0 (Word word) (effect_of 0 state v) state = taken-by setup 0 (Word word) state v (still_open setup rest desk state stands going) is in
     let P : StepOutcome → Type 0 = λ o. LeadsTo takes out out' setup rest new o in
     let Q : Desk → Type 0 = λ d. StandsWith setup rest d (went setup 0 (Word word) (effect_of 0 state v) state).desk in
