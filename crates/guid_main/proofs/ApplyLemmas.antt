@@ -1,5 +1,5 @@
 -- CREATE and MAP, from the verdict to the windows.
-use Rattle.std.proofs.Common.{◌≡◌, ℕ, zero, suc, ◌<◌, ◌^◌, Bool, true, false, ◌&&◌, not, ◌==◌, nat_lt, List, [], ◌∷◌, ◌++◌, length, map, Option, Some, None, is_some, refl, sym, ◌∙◌, ap, subst, arith}
+use Rattle.std.proofs.Common.{◌≡◌, ℕ, zero, suc, ◌<◌, ◌^◌, Bool, true, false, ◌&&◌, not, ◌==◌, nat_lt, List, [], ◌∷◌, ◌++◌, length, map, Some, None, is_some, refl, sym, ◌∙◌, ap, subst, arith}
 use Rattle.std.specs.Prelude.{position, slice_get, slice_set, option_map, if◌then◌else◌}
 use Rattle.std.proofs.lemmas.Bool.{and_parts, not-true}
 use Rattle.gui_num.specs.declared.Rect.{Rect}
@@ -8,13 +8,13 @@ use Rattle.gui_wire.specs.AgentMessages as agent
 use Rattle.gui_wire.specs.AgentMessages.{AgentMessage}
 use Rattle.desk_laws.specs.declared.cause.Cause.TheVariants.{BadType}
 use Rattle.desk_laws.specs.Sizes.{Sizes}
-use Rattle.desk_laws.specs.Rows.{Row, row_with}
+use Rattle.desk_laws.specs.Rows.{row_with}
 use Rattle.desk_laws.specs.Ranges.{rect_in_range}
-use Rattle.desk_laws.specs.Effects.{Change, Added, Replaced, Verdict, Goes, Ends, admits, message_verdict, told_verdict, id_if, isnt_zero, created}
+use Rattle.desk_laws.specs.Effects.{Change, Added, Replaced, Verdict, Goes, Ends, admits, message_verdict, told_verdict, id_if, isnt_zero}
 use Rattle.desk_laws.proofs.VerdictLemmas.{create-verdict, map-verdict, map-unknown, now_mapped}
 use Rattle.guid_main.specs.declared.windows.Window.{Window}
-use Rattle.guid_main.specs.WindowsView.{WindowsView, row_of, id_in}
-use Rattle.guid_main.specs.WindowChanges.{AreSound, Changes, Applied}
+use Rattle.guid_main.specs.WindowsView.{WindowsView, row_of}
+use Rattle.guid_main.specs.WindowChanges.{AreSound, Changes}
 use Rattle.guid_main.proofs.WindowLemmas.{find-map, position-finds, position-fails, position-below, not-among}
 use Rattle.guid_main.proofs.ChangeLemmas.{changes-added, changes-mapped, mapped_window, windows_mapped}
 

@@ -1,23 +1,22 @@
 -- What a change of the rows does to the windows that stand for them.
-use Rattle.std.proofs.Common.{◌≡◌, ℕ, zero, suc, ◌+◌, ◌<◌, ◌≤◌, Bool, true, false, ◌&&◌, ◌||◌, not, ◌==◌, List, [], ◌∷◌, ◌++◌, length, get_or, set, take, drop, map, Option, Some, None, is_some, refl, sym, ◌∙◌, ap, arith}
-use Rattle.std.specs.Prelude.{filter, find, position, slice_get, slice_set, if◌then◌else◌}
+use Rattle.std.proofs.Common.{◌≡◌, ℕ, zero, suc, Bool, true, false, ◌&&◌, not, ◌==◌, List, [], ◌∷◌, ◌++◌, take, drop, map, Some, refl, sym, ◌∙◌, ap, arith}
+use Rattle.std.specs.Prelude.{filter, slice_get, slice_set, if◌then◌else◌}
 use Rattle.std.proofs.Common.{subst}
 use Rattle.std.proofs.lemmas.Bool.{or_parts, or_from}
 use Rattle.std.proofs.lemmas.Bool.Decides.{nat_tests}
 use Rattle.std.proofs.lemmas.List.Folds.{list_any-append}
-use Rattle.std.proofs.lemmas.List.{append-nil, map-append, set_split, map_push}
+use Rattle.std.proofs.lemmas.List.{append-nil, map-append, map_push}
 use Rattle.std.proofs.lemmas.List.Elements.{filter-append}
 use Rattle.desk_laws.specs.declared.row_id.RowId.{RowId}
-use Rattle.desk_laws.specs.Rows.{Row, id_of, same_row, mine, row_with, is_row}
+use Rattle.desk_laws.specs.Rows.{Row, id_of, same_row, mine}
 use Rattle.desk_laws.specs.Layers.{is_in, are_apart, HaveSame, layer_of, staying, coming}
-use Rattle.desk_laws.specs.Effects.{replaced_in, Change, Same, Added, Replaced, Cleared, changed}
-use Rattle.desk_laws.proofs.RowLemmas.{apart-around, apart-push, replaced-one, same_row-itself}
-use Rattle.desk_laws.proofs.LayerLemmas.{layer-stays, layer-gains, same-gained, is_in-push}
+use Rattle.desk_laws.specs.Effects.{replaced_in, Same, Added, Replaced, Cleared, changed}
+use Rattle.desk_laws.proofs.RowLemmas.{apart-around, apart-push, replaced-one}
+use Rattle.desk_laws.proofs.LayerLemmas.{layer-stays, layer-gains, same-gained}
 use Rattle.desk_laws.proofs.VerdictLemmas.{now_mapped}
 use Rattle.guid_main.specs.declared.windows.Window.{Window}
 use Rattle.guid_main.specs.WindowsView.{WindowsView, row_of, id_in}
 use Rattle.guid_main.specs.WindowChanges.{AreSound, Changes}
-use Rattle.guid_main.proofs.WindowLemmas.{position-finds, position-fails}
 
 -- ---- all rows are the guest's
 

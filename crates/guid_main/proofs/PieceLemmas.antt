@@ -1,14 +1,13 @@
 -- A piece of a guest's bytes, unit by unit.
-use Rattle.std.proofs.Common.{◌≡◌, ℕ, ◌<◌, Bool, true, false, List, [], ◌∷◌, ◌++◌, length, drop, take, Option, Some, None, is_some, refl, sym, ◌∙◌, ap, subst, arith}
-use Rattle.std.specs.Prelude.{if◌then◌else◌}
+use Rattle.std.proofs.Common.{◌≡◌, ℕ, Bool, true, false, List, Option, Some, None, is_some, refl, sym, ◌∙◌, ap, subst}
 use Rattle.std.proofs.lemmas.List.{append-nil}
 use Rattle.desk_laws.specs.declared.cause.Cause.{Cause}
 use Rattle.desk_laws.specs.declared.setup.Setup.{Setup}
-use Rattle.desk_laws.specs.Stream.{StreamUnit, Word, Stop, Whole, Front, Wait, Fault, Takes, front, Cut, cut}
+use Rattle.desk_laws.specs.Stream.{StreamUnit, Stop, Fault, Takes, front, Cut, cut}
 use Rattle.desk_laws.specs.Scene.{Post, Ended}
-use Rattle.desk_laws.specs.State.{DeskState, StepOutcome, Session, session_of, stays, step_after}
+use Rattle.desk_laws.specs.State.{DeskState, StepOutcome, session_of, stays, step_after}
 use Rattle.desk_laws.specs.Steps.{take_unit, take_units}
-use Rattle.desk_laws.proofs.CuttingLemmas.{cut-takes, cut-waits, cut-faults}
+use Rattle.desk_laws.proofs.CuttingLemmas.{cut-takes, cut-faults}
 use Rattle.desk_laws.proofs.UnitLemmas.{units-left}
 use Rattle.io_ports.specs.Posts.{Leads}
 use Rattle.guid_main.specs.declared.desk.Desk.{Desk}

@@ -1,13 +1,12 @@
 -- A piece of a guest's bytes, from the definitions to the desk.
-use Rattle.std.proofs.Common.{◌≡◌, ℕ, Bool, true, false, ◌||◌, List, [], ◌∷◌, ◌++◌, Option, Some, None, is_some, refl, sym, ◌∙◌, ap, subst}
+use Rattle.std.proofs.Common.{◌≡◌, ℕ, Bool, true, false, List, [], ◌∷◌, ◌++◌, refl, sym, ◌∙◌, ap, subst}
 use Rattle.std.specs.Prelude.{if◌then◌else◌}
 use Rattle.std.proofs.lemmas.List.{append-nil}
-use Rattle.desk_laws.specs.declared.cause.Cause.{Cause}
 use Rattle.desk_laws.specs.declared.cause.Cause.TheVariants.{StreamEnded}
 use Rattle.desk_laws.specs.declared.setup.Setup.{Setup}
 use Rattle.desk_laws.specs.Stream.{cut}
 use Rattle.desk_laws.specs.Scene.{Post, Ended, Closing}
-use Rattle.desk_laws.specs.State.{DeskState, StepOutcome, Session, session_of, with_session, stays, step_after, and_next}
+use Rattle.desk_laws.specs.State.{DeskState, StepOutcome, session_of, with_session, stays, step_after}
 use Rattle.desk_laws.specs.Steps.{take_bytes, bytes_of_open, take_cut, rest_of_open, take_units, cut_short, end_session, end_of_open, ends, is_nil}
 use Rattle.io_ports.specs.Posts.{Leads}
 use Rattle.guid_main.specs.declared.desk.Desk.{Desk}

@@ -1,15 +1,14 @@
 -- One unit of a session that is open, from the definitions to the desk.
-use Rattle.std.proofs.Common.{◌≡◌, ℕ, ◌/◌, ◌%◌, Bool, true, false, ◌==◌, List, [], ◌∷◌, ◌++◌, map, Option, Some, None, is_some, refl, sym, ◌∙◌, ap, subst}
+use Rattle.std.proofs.Common.{◌≡◌, ℕ, ◌/◌, ◌%◌, false, ◌==◌, List, [], map, Option, Some, None, is_some, refl, sym, ◌∙◌, ap, subst}
 use Rattle.std.specs.Prelude.{if◌then◌else◌}
 use Rattle.gui_wire.specs.declared.Header.{Header}
-use Rattle.gui_wire.specs.AgentMessages.{reading}
 use Rattle.desk_laws.specs.declared.cause.Cause.{Cause}
-use Rattle.desk_laws.specs.declared.cause.Cause.TheVariants.{BadVersion, BadType}
+use Rattle.desk_laws.specs.declared.cause.Cause.TheVariants.{BadVersion}
 use Rattle.desk_laws.specs.declared.setup.Setup.{Setup}
-use Rattle.desk_laws.specs.Sizes.{Sizes, sizes_of}
-use Rattle.desk_laws.specs.Stream.{StreamUnit, Word, Stop, Whole}
+use Rattle.desk_laws.specs.Sizes.{sizes_of}
+use Rattle.desk_laws.specs.Stream.{StreamUnit, Word, Whole}
 use Rattle.desk_laws.specs.Rows.{mine}
-use Rattle.desk_laws.specs.Effects.{Change, Verdict, Goes, Greets, Ends, verdict, greeting, message_verdict, told_verdict}
+use Rattle.desk_laws.specs.Effects.{Change, Goes, Greets, Ends, verdict, greeting}
 use Rattle.desk_laws.specs.Scene.{Post, Ended, Took, replies}
 use Rattle.desk_laws.specs.State.{DeskState, StepOutcome, session_of}
 use Rattle.desk_laws.specs.Steps.{take_unit, ends, went}
@@ -18,7 +17,6 @@ use Rattle.io_ports.specs.Posts.{Leads}
 use Rattle.guid_main.specs.declared.desk.Desk.{Desk}
 use Rattle.guid_main.specs.WindowsView.{WindowsView, row_of}
 use Rattle.guid_main.specs.WindowChanges.{Changes}
-use Rattle.guid_main.specs.DeskPosts.{guest_posts}
 use Rattle.guid_main.specs.DeskStands.{StandsWith, LeadsTo, ended_desk, greeted_desk, message_taken}
 use Rattle.guid_main.proofs.ChangeLemmas.{mine-all}
 use Rattle.guid_main.proofs.StandLemmas.{ends-stands, goes-stands, greets-stands}

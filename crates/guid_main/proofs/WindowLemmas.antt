@@ -1,5 +1,5 @@
 -- The table of windows: its mapped ones, and where an id stands.
-use Rattle.std.proofs.Common.{◌≡◌, ℕ, zero, suc, ◌+◌, ◌<◌, ◌≤◌, Bool, true, false, List, [], ◌∷◌, length, get_or, set, count_by, cond, refl, sym, ◌∙◌, ap, arith, length-set}
+use Rattle.std.proofs.Common.{◌≡◌, ℕ, zero, suc, ◌<◌, ◌≤◌, Bool, true, false, List, [], ◌∷◌, length, get_or, set, count_by, cond, refl, sym, ◌∙◌, ap, arith, length-set}
 use Rattle.std.specs.Prelude.{◌==◌, find, position, slice_get, map, is_some, ◌||◌, if◌then◌else◌, option_map, Option, Some, None}
 use Rattle.std.specs.List.{position_or_len}
 use Rattle.std.proofs.lemmas.Bool.Decides.{nat_tests}

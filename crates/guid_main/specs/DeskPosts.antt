@@ -1,7 +1,5 @@
 -- What a step tells guests, and what its answer tells.
-use Rattle.std.specs.Prelude.{ℕ, Bool, true, false, List, filter}
-use Rattle.desk_laws.specs.declared.item.Item.{Item}
-use Rattle.desk_laws.specs.declared.item.Item.TheVariants as items
+use Rattle.std.specs.Prelude.{Bool, true, false, List, filter}
 use Rattle.desk_laws.specs.Scene.{Post, Reply, Ended, Picture, Summary}
 
 -- whether a post is for a guest

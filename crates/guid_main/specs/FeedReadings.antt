@@ -1,5 +1,5 @@
 -- What a feed that reads a record answers, and what it took of the bytes.
-use Rattle.std.specs.Prelude.{◌≡◌, ℕ, List, [], ◌∷◌, ◌++◌, Option, Some, None, Result, Ok, Err, option_map, if◌then◌else◌}
+use Rattle.std.specs.Prelude.{◌≡◌, ℕ, List, [], ◌++◌, Option, Some, None, Ok, Err, option_map, if◌then◌else◌}
 use Rattle.io_ports.specs.declared.feed.RecordFault.{RecordFault}
 use Rattle.io_ports.specs.declared.feed.RecordKind.TheVariants as kinds
 use Rattle.io_ports.specs.declared.feed.FeedFault.TheVariants as feeds

@@ -1,6 +1,6 @@
 -- What a record says: a setup, and the items behind it up to End or a fault. The format is this
 -- project's own.
-use Rattle.std.specs.Prelude.{◌≡◌, ℕ, zero, suc, ◌+◌, List, [], ◌∷◌, ◌++◌, length, take, drop, slice_index, ◌==◌, nat_lt, nat_le, ◌&&◌, if◌then◌else◌, Bool, true, false, Result, Ok, Err}
+use Rattle.std.specs.Prelude.{ℕ, zero, suc, ◌+◌, List, [], ◌∷◌, ◌++◌, length, take, drop, slice_index, ◌==◌, nat_lt, nat_le, ◌&&◌, if◌then◌else◌, Bool, true, false, Result, Ok, Err}
 use Rattle.io_ports.specs.declared.feed.RecordFault.{RecordFault}
 use Rattle.io_ports.specs.declared.feed.RecordKind.{RecordKind}
 use Rattle.io_ports.specs.declared.feed.RecordKind.TheVariants as kinds

@@ -1,4 +1,4 @@
-use Rattle.std.proofs.Common.{ℕ, ◌+◌, ◌*◌, length, get_or, arith}
+use Rattle.std.proofs.Common.{◌+◌, ◌*◌, get_or, arith}
 use Rattle.guid_main.proofs.PictureLemmas.{row-filled}
 use Rattle.guid_main.proofs.picture.fill_rows.Goals as goal
 

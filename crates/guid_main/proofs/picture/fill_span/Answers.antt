@@ -1,4 +1,4 @@
-use Rattle.std.proofs.Common.{◌≡◌, ◌∙◌, ℕ, ◌-◌, List, length, take, drop, replicate, get_or, ap, arith, length-take, length-drop}
+use Rattle.std.proofs.Common.{◌≡◌, ◌∙◌, ◌-◌, length, take, drop, replicate, get_or, ap, arith, length-take, length-drop}
 use borrow.Rule.Slice.PartMut.{put_mid}
 use Rattle.guid_main.proofs.PictureLemmas.{filled-at}
 use Rattle.guid_main.proofs.picture.fill_span.Goals as goal

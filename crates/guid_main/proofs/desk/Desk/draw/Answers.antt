@@ -1,10 +1,10 @@
-use Rattle.std.proofs.Common.{◌≡◌, ◌∙◌, ℕ, List, [], ◌++◌, map, sym, ap, subst}
+use Rattle.std.proofs.Common.{◌≡◌, ◌∙◌, List, ◌++◌, map, sym, ap, subst}
 use Rattle.std.proofs.lemmas.List.{append-nil}
 use Rattle.desk_laws.specs.declared.row_id.RowId.{RowId}
 use Rattle.desk_laws.specs.Rows.{Row}
 use Rattle.desk_laws.specs.Picture.{pixels}
 use Rattle.guid_main.specs.PictureView.{PictureView}
-use Rattle.guid_main.specs.WindowsView.{row_of, id_in, colour_under}
+use Rattle.guid_main.specs.WindowsView.{id_in, colour_under}
 use Rattle.guid_main.proofs.DrawLemmas.{same-sides}
 use Rattle.guid_main.proofs.desk.Desk.draw.Goals as goal
 

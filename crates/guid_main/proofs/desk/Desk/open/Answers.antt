@@ -1,6 +1,6 @@
-use Rattle.std.proofs.Common.{◌≡◌, ◌∙◌, ℕ, ◌<◌, List, length, Option, None, Some, get_or, false, refl, sym, ap, arith}
+use Rattle.std.proofs.Common.{◌≡◌, ◌∙◌, List, length, Some, get_or, false, refl, sym, ap, arith}
 use Rattle.std.specs.Prelude.{slice_get}
-use Rattle.std.proofs.lemmas.Option.{slice_get-get_or, slice_get_read}
+use Rattle.std.proofs.lemmas.Option.{slice_get-get_or}
 use Rattle.desk_laws.specs.declared.setup.GuestSetup.{GuestSetup}
 use Rattle.desk_laws.specs.Picture.{label_in}
 use Rattle.desk_laws.proofs.RuleLemmas.{HasRanges, ranges-kept}

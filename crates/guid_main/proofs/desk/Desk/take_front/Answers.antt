@@ -1,6 +1,6 @@
-use Rattle.std.proofs.Common.{◌≡◌, ◌∙◌, ℕ, ◌+◌, ◌-◌, Bool, true, List, drop, take, refl, sym, ap, subst, arith}
+use Rattle.std.proofs.Common.{◌≡◌, ◌∙◌, ℕ, ◌+◌, ◌-◌, List, drop, take, ap, subst, arith}
 use Rattle.std.proofs.lemmas.List.{drop-drop}
-use Rattle.desk_laws.specs.Stream.{StreamUnit, Word, Whole, Front, Takes, front}
+use Rattle.desk_laws.specs.Stream.{Word, Whole, Takes, front}
 use Rattle.desk_laws.specs.Steps.{take_unit}
 use Rattle.desk_laws.proofs.CuttingLemmas.{front-greets}
 use Rattle.guid_main.specs.DeskStands.{LeadsTo}

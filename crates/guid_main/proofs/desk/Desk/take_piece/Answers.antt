@@ -1,5 +1,4 @@
-use Rattle.std.proofs.Common.{◌≡◌, ◌∙◌, Bool, true, false, List, [], refl, sym}
-use Rattle.desk_laws.specs.Steps.{is_nil}
+use Rattle.std.proofs.Common.{◌≡◌, ◌∙◌, true, sym}
 use Rattle.guid_main.proofs.PieceStands.{bytes-taken, piece-whole, piece-cut, nil-of}
 use Rattle.guid_main.proofs.desk.Desk.take_piece.Goals as goal
 

@@ -1,4 +1,4 @@
-use Rattle.std.proofs.Common.{◌≡◌, ◌∙◌, ℕ, ◌/◌, ◌%◌, refl, sym, ap}
+use Rattle.std.proofs.Common.{◌/◌, ◌%◌, refl, sym, ap}
 use Rattle.std.specs.Prelude.{if◌then◌else◌}
 use Rattle.std.proofs.lemmas.Bool.{ne_eqb}
 use Rattle.desk_laws.specs.declared.cause.Cause.TheVariants.{BadVersion}

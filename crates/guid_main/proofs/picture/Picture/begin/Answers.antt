@@ -1,4 +1,4 @@
-use Rattle.std.proofs.Common.{◌≡◌, ◌∙◌, ℕ, ◌+◌, ◌*◌, List, replicate, map, ap, arith, subst, sym}
+use Rattle.std.proofs.Common.{◌≡◌, ◌∙◌, ℕ, ◌+◌, ◌*◌, List, replicate, map, ap}
 use Rattle.guid_main.specs.PictureView.{PictureView}
 use Rattle.desk_laws.specs.Picture.{pixels}
 use Rattle.desk_laws.specs.Frames.{counted}

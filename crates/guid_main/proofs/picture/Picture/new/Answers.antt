@@ -1,5 +1,4 @@
-use Rattle.std.proofs.Common.{◌≡◌, ap}
-use Rattle.guid_main.specs.PictureView.{PictureView}
+use Rattle.std.proofs.Common.{ap}
 use Rattle.guid_main.proofs.PictureLemmas.{one-colour}
 use Rattle.guid_main.proofs.picture.Picture.new.Goals as goal
 

@@ -1,4 +1,4 @@
-use Rattle.std.proofs.Common.{◌≡◌, ◌∙◌, Some, None, refl, sym, ap}
+use Rattle.std.proofs.Common.{◌∙◌, refl, sym, ap}
 use Rattle.gui_wire.specs.declared.AgentMsg.{AgentMsg}
 use Rattle.gui_wire.specs.Seen.{message}
 use Rattle.guid_main.proofs.ApplyLemmas.{told, create-applied, map-applied, map-refused}

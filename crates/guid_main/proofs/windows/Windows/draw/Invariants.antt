@@ -1,4 +1,4 @@
-use Rattle.std.proofs.Common.{◌≡◌, ℕ, take, map}
+use Rattle.std.proofs.Common.{◌≡◌, take, map}
 use Rattle.desk_laws.specs.declared.setup.Setup.{Setup}
 use Rattle.desk_laws.specs.Picture.{pixels, label_of}
 use Rattle.guid_main.specs.WindowsView.{row_of, id_in, colour_under}

@@ -1,4 +1,4 @@
-use Rattle.std.proofs.Common.{◌≡◌, ◌∙◌, Option, is_some, ap}
+use Rattle.std.proofs.Common.{◌∙◌, is_some, ap}
 use Rattle.guid_main.proofs.WindowLemmas.{known-is}
 use Rattle.guid_main.proofs.windows.Windows.has.Goals as goal
 

@@ -1,5 +1,5 @@
-use Rattle.std.proofs.Common.{◌≡◌, ◌∙◌, ℕ, ◌<◌, List, length, get_or, Bool, true, false, Option, Some, slice_set, ap, sym, refl, arith}
-use Rattle.std.specs.Prelude.{slice_get, if◌then◌else◌, ◌++◌, [], ◌∷◌, vec_len}
+use Rattle.std.proofs.Common.{◌≡◌, ◌∙◌, ℕ, ◌<◌, List, length, get_or, Bool, true, false, Some, slice_set, ap, sym, refl, arith}
+use Rattle.std.specs.Prelude.{slice_get, if◌then◌else◌, ◌++◌, [], ◌∷◌}
 use Rattle.std.proofs.lemmas.Bool.{not-true, not-false}
 use Rattle.std.proofs.lemmas.Option.{get_or_from_slice_get}
 use Rattle.guid_main.specs.declared.windows.Window.{Window}
