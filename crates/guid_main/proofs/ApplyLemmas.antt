@@ -1,5 +1,5 @@
 -- CREATE and MAP, from the verdict to the windows.
-use Rattle.std.proofs.Common.{◌≡◌, ℕ, zero, suc, ◌<◌, ◌^◌, Bool, true, false, ◌&&◌, not, ◌==◌, nat_lt, List, [], ◌∷◌, ◌++◌, length, map, Option, Some, None, is_some, refl, sym, ◌∙◌, ap, subst, arith}
+use Rattle.std.proofs.Common.{◌≡◌, ℕ, zero, suc, ◌<◌, ◌^◌, Bool, true, false, ◌&&◌, not, ◌==◌, nat_lt, List, [], ◌∷◌, ◌++◌, length, map, Some, None, is_some, refl, sym, ◌∙◌, ap, subst, arith}
 use Rattle.std.specs.Prelude.{position, slice_get, slice_set, option_map, if◌then◌else◌}
 use Rattle.std.proofs.lemmas.Bool.{and_parts, not-true}
 use Rattle.gui_num.specs.declared.Rect.{Rect}
@@ -8,13 +8,13 @@ use Rattle.gui_wire.specs.AgentMessages as agent
 use Rattle.gui_wire.specs.AgentMessages.{AgentMessage}
 use Rattle.desk_laws.specs.declared.cause.Cause.TheVariants.{BadType}
 use Rattle.desk_laws.specs.Sizes.{Sizes}
-use Rattle.desk_laws.specs.Rows.{Row, row_with}
+use Rattle.desk_laws.specs.Rows.{row_with}
 use Rattle.desk_laws.specs.Ranges.{rect_in_range}
-use Rattle.desk_laws.specs.Effects.{Change, Added, Replaced, Verdict, Goes, Ends, admits, message_verdict, told_verdict, id_if, isnt_zero, created}
+use Rattle.desk_laws.specs.Effects.{Change, Added, Replaced, Verdict, Goes, Ends, admits, message_verdict, told_verdict, id_if, isnt_zero}
 use Rattle.desk_laws.proofs.VerdictLemmas.{create-verdict, map-verdict, map-unknown, now_mapped}
 use Rattle.guid_main.specs.declared.windows.Window.{Window}
-use Rattle.guid_main.specs.WindowsView.{WindowsView, row_of, id_in}
-use Rattle.guid_main.specs.WindowChanges.{AreSound, Changes, Applied}
+use Rattle.guid_main.specs.WindowsView.{WindowsView, row_of}
+use Rattle.guid_main.specs.WindowChanges.{AreSound, Changes}
 use Rattle.guid_main.proofs.WindowLemmas.{find-map, position-finds, position-fails, position-below, not-among}
 use Rattle.guid_main.proofs.ChangeLemmas.{changes-added, changes-mapped, mapped_window, windows_mapped}
 
@@ -41,15 +41,16 @@ create-applied sizes minor old new header x y width height parent asked parent' 
     let w = new_window header.window r p (isnt_zero asked) in
     let added : WindowsView = record { table = old.table ++ w ∷ []; stack = old.stack } in
     let is : new ≡ added =
-        made
-        ∙ ap (λ q. let v : WindowsView = record { table = old.table ++ new_window header.window q parent' (isnt_zero asked) ∷ []; stack = old.stack } in v) placed
-        ∙ ap (λ q. let v : WindowsView = record { table = old.table ++ new_window header.window r q (isnt_zero asked) ∷ []; stack = old.stack } in v) known in
+    made
+    ∙ ap (λ q. let v : WindowsView = record { table = old.table ++ new_window header.window q parent' (isnt_zero asked) ∷ []; stack = old.stack } in v) placed
+    ∙ ap (λ q. let v : WindowsView = record { table = old.table ++ new_window header.window r q (isnt_zero asked) ∷ []; stack = old.stack } in v) known in
     let parts = and_parts (not (header.window == 0) && (nat_lt width (2 ^ 31) && nat_lt height (2 ^ 31))) (not (is_some (row_with header.window own)) && nat_lt (length own) 1024) admitted in
     let fresh = not-among old.table header.window (not-true _ (and_parts _ _ parts.1).0) in
-    let P : WindowsView → Type 0 = λ v. Changes (Added (row_of w)) old v in
-    (Added (row_of w),
-     create-verdict sizes 0 minor own header x y width height parent asked ∙ ap (λ b. if b then Goes (Added (row_of w)) [] else Ends (BadType header.kind 0)) admitted,
-     subst P (sym is) (changes-added old w sound refl fresh))
+    let P : WindowsView → Type 0 = λ v. Changes (Added (row_of w)) old v in (
+      Added (row_of w),
+      create-verdict sizes 0 minor own header x y width height parent asked ∙ ap (λ b. if b then Goes (Added (row_of w)) [] else Ends (BadType header.kind 0)) admitted,
+      subst P (sym is) (changes-added old w sound refl fresh),
+    )
 
 some-at : {X : Type 0} (xs : List X) (i : ℕ) → i < length xs → (x : X) × (slice_get xs i ≡ Some x)
 some-at [] i below = absurd (omega arith)
@@ -71,14 +72,15 @@ map-applied sizes minor old new header transient asked at transient' sound found
     let there = some-at old.table at (position-below (λ v. v.id == header.window) old.table at found) in
     let w = there.0 in
     let is : new ≡ windows_mapped at (isnt_zero asked) t w old =
-        ap (λ ws. let v : WindowsView = record { table = ws; stack = new.stack } in v)
-            (table w there.1 ∙ ap (λ q. slice_set old.table at (mapped_window (isnt_zero asked) q w)) known)
-        ∙ ap (λ ids. let v : WindowsView = record { table = slice_set old.table at (mapped_window (isnt_zero asked) t w); stack = ids } in v) (stack w there.1) in
+    ap (λ ws. let v : WindowsView = record { table = ws; stack = new.stack } in v)
+    (table w there.1 ∙ ap (λ q. slice_set old.table at (mapped_window (isnt_zero asked) q w)) known)
+    ∙ ap (λ ids. let v : WindowsView = record { table = slice_set old.table at (mapped_window (isnt_zero asked) t w); stack = ids } in v) (stack w there.1) in
     let change = Replaced (now_mapped (isnt_zero asked) t (row_of w)) in
-    let P : WindowsView → Type 0 = λ v. Changes change old v in
-    (change,
-     map-verdict sizes 0 minor own header transient asked (row_of w) (row-with old.table header.window at w found there.1),
-     subst P (sym is) (changes-mapped old at (isnt_zero asked) t w sound there.1))
+    let P : WindowsView → Type 0 = λ v. Changes change old v in (
+      change,
+      map-verdict sizes 0 minor own header transient asked (row_of w) (row-with old.table header.window at w found there.1),
+      subst P (sym is) (changes-mapped old at (isnt_zero asked) t w sound there.1),
+    )
 
 pub map-refused : (sizes : Sizes) (minor : ℕ) (old : WindowsView) (header : Header) (transient asked : ℕ) → position (λ v. v.id == header.window) old.table ≡ None
     → told sizes minor old header (agent.Map transient asked) ≡ Ends (BadType header.kind 0)

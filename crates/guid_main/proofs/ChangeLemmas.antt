@@ -1,23 +1,22 @@
 -- What a change of the rows does to the windows that stand for them.
-use Rattle.std.proofs.Common.{◌≡◌, ℕ, zero, suc, ◌+◌, ◌<◌, ◌≤◌, Bool, true, false, ◌&&◌, ◌||◌, not, ◌==◌, List, [], ◌∷◌, ◌++◌, length, get_or, set, take, drop, map, Option, Some, None, is_some, refl, sym, ◌∙◌, ap, arith}
-use Rattle.std.specs.Prelude.{filter, find, position, slice_get, slice_set, if◌then◌else◌}
+use Rattle.std.proofs.Common.{◌≡◌, ℕ, zero, suc, Bool, true, false, ◌&&◌, not, ◌==◌, List, [], ◌∷◌, ◌++◌, take, drop, map, Some, refl, sym, ◌∙◌, ap, arith}
+use Rattle.std.specs.Prelude.{filter, slice_get, slice_set, if◌then◌else◌}
 use Rattle.std.proofs.Common.{subst}
 use Rattle.std.proofs.lemmas.Bool.{or_parts, or_from}
 use Rattle.std.proofs.lemmas.Bool.Decides.{nat_tests}
 use Rattle.std.proofs.lemmas.List.Folds.{list_any-append}
-use Rattle.std.proofs.lemmas.List.{append-nil, map-append, set_split, map_push}
+use Rattle.std.proofs.lemmas.List.{append-nil, map-append, map_push}
 use Rattle.std.proofs.lemmas.List.Elements.{filter-append}
 use Rattle.desk_laws.specs.declared.row_id.RowId.{RowId}
-use Rattle.desk_laws.specs.Rows.{Row, id_of, same_row, mine, row_with, is_row}
+use Rattle.desk_laws.specs.Rows.{Row, id_of, same_row, mine}
 use Rattle.desk_laws.specs.Layers.{is_in, are_apart, HaveSame, layer_of, staying, coming}
-use Rattle.desk_laws.specs.Effects.{replaced_in, Change, Same, Added, Replaced, Cleared, changed}
-use Rattle.desk_laws.proofs.RowLemmas.{apart-around, apart-push, replaced-one, same_row-itself}
-use Rattle.desk_laws.proofs.LayerLemmas.{layer-stays, layer-gains, same-gained, is_in-push}
+use Rattle.desk_laws.specs.Effects.{replaced_in, Same, Added, Replaced, Cleared, changed}
+use Rattle.desk_laws.proofs.RowLemmas.{apart-around, apart-push, replaced-one}
+use Rattle.desk_laws.proofs.LayerLemmas.{layer-stays, layer-gains, same-gained}
 use Rattle.desk_laws.proofs.VerdictLemmas.{now_mapped}
 use Rattle.guid_main.specs.declared.windows.Window.{Window}
 use Rattle.guid_main.specs.WindowsView.{WindowsView, row_of, id_in}
 use Rattle.guid_main.specs.WindowChanges.{AreSound, Changes}
-use Rattle.guid_main.proofs.WindowLemmas.{position-finds, position-fails}
 
 -- ---- all rows are the guest's
 
@@ -67,11 +66,11 @@ pub changes-added : (old : WindowsView) (w : Window) → AreSound old → w.mapp
 changes-added old w sound unmapped new =
     let rows : map row_of (old.table ++ w ∷ []) ≡ map row_of old.table ++ row_of w ∷ [] = map_push row_of old.table w in
     let layer : layer_of false (map row_of (old.table ++ w ∷ [])) ≡ layer_of false (map row_of old.table) =
-        ap (layer_of false) rows ∙ filter-append _ (map row_of old.table) (row_of w ∷ [])
-        ∙ ap (λ b. layer_of false (map row_of old.table) ++ (if b && true then row_of w ∷ [] else [])) unmapped
-        ∙ append-nil (layer_of false (map row_of old.table)) in
+    ap (layer_of false) rows ∙ filter-append _ (map row_of old.table) (row_of w ∷ [])
+    ∙ ap (λ b. layer_of false (map row_of old.table) ++ (if b && true then row_of w ∷ [] else [])) unmapped
+    ∙ append-nil (layer_of false (map row_of old.table)) in
     let followed : HaveSame (map id_in old.stack) (map id_of (layer_of false (map row_of (old.table ++ w ∷ [])))) =
-        λ id. sound.followed id ∙ ap (λ rs. is_in (map id_of rs) id) (sym layer) in
+    λ id. sound.followed id ∙ ap (λ rs. is_in (map id_of rs) id) (sym layer) in
     record {
       rows = sym rows;
       normal = layer-stays (layer_of false (map row_of (old.table ++ w ∷ []))) (map id_in old.stack) followed;
@@ -130,7 +129,7 @@ rows-replaced before after stack asked transient w sound =
     let b = map row_of before in
     let a = map row_of after in
     let out = apart-around (map id_of b) (map id_of a) (id_in w.id)
-        (sym (ap (λ rs. are_apart (map id_of rs)) (map-append row_of before (w ∷ after)) ∙ ap are_apart (ids-around b a (row_of w))) ∙ sound.apart) in
+    (sym (ap (λ rs. are_apart (map id_of rs)) (map-append row_of before (w ∷ after)) ∙ ap are_apart (ids-around b a (row_of w))) ∙ sound.apart) in
     ap (map (replaced_in 0 (now_mapped asked transient (row_of w)))) (map-append row_of before (w ∷ after))
     ∙ replaced-one 0 b a (row_of w) (now_mapped asked transient (row_of w)) out.0 out.1 (itself w.id)
     ∙ sym (map-append row_of before (mapped_window asked transient w ∷ after))
@@ -155,9 +154,9 @@ mapped-again before after stack asked transient w sound was =
     let lb = layer_of false (map row_of before) in
     let la = layer_of false (map row_of after) in
     let old : layer_of false (map row_of (before ++ w ∷ after)) ≡ lb ++ row_of w ∷ la =
-        layer-split before after w ∙ ap (λ b. lb ++ (if b && true then row_of w ∷ la else la)) was in
+    layer-split before after w ∙ ap (λ b. lb ++ (if b && true then row_of w ∷ la else la)) was in
     let same : map id_of (layer_of false (map row_of (before ++ m ∷ after))) ≡ map id_of (layer_of false (map row_of (before ++ w ∷ after))) =
-        ap (map id_of) (layer-split before after m) ∙ ids-around lb la (row_of m) ∙ sym (ap (map id_of) old ∙ ids-around lb la (row_of w)) in
+    ap (map id_of) (layer-split before after m) ∙ ids-around lb la (row_of m) ∙ sym (ap (map id_of) old ∙ ids-around lb la (row_of w)) in
     let followed : HaveSame (map id_in stack) (map id_of (layer_of false (map row_of (before ++ m ∷ after)))) = λ id. sound.followed id ∙ ap (λ ids. is_in ids id) (sym same) in
     record {
       rows = rows-replaced before after stack asked transient w sound;
@@ -176,14 +175,14 @@ mapped-first before after stack asked transient w sound was =
     let id = id_in w.id in
     let members = map id_in stack in
     let old : layer_of false (map row_of (before ++ w ∷ after)) ≡ lb ++ la =
-        layer-split before after w ∙ ap (λ v. lb ++ (if v && true then row_of w ∷ la else la)) was in
+    layer-split before after w ∙ ap (λ v. lb ++ (if v && true then row_of w ∷ la else la)) was in
     let new : layer_of false (map row_of (before ++ m ∷ after)) ≡ lb ++ row_of m ∷ la = layer-split before after m in
     let same : HaveSame members (map id_of (lb ++ la)) = λ x. sound.followed x ∙ ap (λ rs. is_in (map id_of rs) x) old in
     let out = apart-around (map id_of b) (map id_of a) id
-        (sym (ap (λ rs. are_apart (map id_of rs)) (map-append row_of before (w ∷ after)) ∙ ap are_apart (ids-around b a (row_of w))) ∙ sound.apart) in
+    (sym (ap (λ rs. are_apart (map id_of rs)) (map-append row_of before (w ∷ after)) ∙ ap are_apart (ids-around b a (row_of w))) ∙ sound.apart) in
     let fresh : is_in members id ≡ false =
-        same id ∙ ap (λ ids. is_in ids id) (map-append id_of lb la) ∙ list_any-append (same_row id) (map id_of lb) (map id_of la)
-        ∙ or_from _ _ (in-filtered _ b id out.0) (in-filtered _ a id out.1) in
+    same id ∙ ap (λ ids. is_in ids id) (map-append id_of lb la) ∙ list_any-append (same_row id) (map id_of lb) (map id_of la)
+    ∙ or_from _ _ (in-filtered _ b id out.0) (in-filtered _ a id out.1) in
     let pushed : map id_in (stack ++ w.id ∷ []) ≡ members ++ id ∷ [] = map_push id_in stack w.id in
     record {
       rows = rows-replaced before after stack asked transient w sound;
@@ -203,7 +202,7 @@ changes-mapped old at asked transient w sound here =
     let change = Replaced (now_mapped asked transient (row_of w)) in
     let split : old ≡ split_view before w after old.stack = ap (λ t. let v : WindowsView = record { table = t; stack = old.stack } in v) (around old.table at w here) in
     let new : split_view before m after (if w.mapped then old.stack else old.stack ++ w.id ∷ []) ≡ windows_mapped at asked transient w old =
-        sym (ap (λ t. let v : WindowsView = record { table = t; stack = if w.mapped then old.stack else old.stack ++ w.id ∷ [] } in v) (set-around old.table at w m here)) in
+    sym (ap (λ t. let v : WindowsView = record { table = t; stack = if w.mapped then old.stack else old.stack ++ w.id ∷ [] } in v) (set-around old.table at w m here)) in
     let sound' : AreSound (split_view before w after old.stack) = let P : WindowsView → Type 0 = λ v. AreSound v in subst P split sound in
     let P : WindowsView → Type 0 = λ v. Changes change v (split_view before m after (if w.mapped then old.stack else old.stack ++ w.id ∷ [])) in
     let Q : WindowsView → Type 0 = λ v. Changes change old v in
@@ -215,8 +214,8 @@ changes-mapped old at asked transient w sound here =
         → Changes (Replaced (now_mapped asked transient (row_of w))) (split_view before w after old.stack) (split_view before (mapped_window asked transient w) after (if w.mapped then old.stack else old.stack ++ w.id ∷ []))
     by_mapped before after sound again first =
         elim w.mapped as (λ b. (b ≡ true → Changes (Replaced (now_mapped asked transient (row_of w))) (split_view before w after old.stack) (split_view before (mapped_window asked transient w) after old.stack))
-            → (b ≡ false → Changes (Replaced (now_mapped asked transient (row_of w))) (split_view before w after old.stack) (split_view before (mapped_window asked transient w) after (old.stack ++ w.id ∷ [])))
-            → Changes (Replaced (now_mapped asked transient (row_of w))) (split_view before w after old.stack) (split_view before (mapped_window asked transient w) after (if b then old.stack else old.stack ++ w.id ∷ []))) [
+        → (b ≡ false → Changes (Replaced (now_mapped asked transient (row_of w))) (split_view before w after old.stack) (split_view before (mapped_window asked transient w) after (old.stack ++ w.id ∷ [])))
+        → Changes (Replaced (now_mapped asked transient (row_of w))) (split_view before w after old.stack) (split_view before (mapped_window asked transient w) after (if b then old.stack else old.stack ++ w.id ∷ []))) [
           | true ↦ λ again first. again refl
           | false ↦ λ again first. first refl
         ] again first

@@ -1,7 +1,7 @@
 -- Windows drawn onto a picture, one after the other.
-use Rattle.std.proofs.Common.{◌≡◌, ℕ, zero, suc, ◌+◌, ◌*◌, ◌<◌, ◌≤◌, Bool, true, false, ◌&&◌, List, [], ◌∷◌, ◌++◌, map, Option, Some, None, refl, sym, ◌∙◌, ap, arith, ℤ, pos}
+use Rattle.std.proofs.Common.{◌≡◌, ℕ, ◌+◌, ◌*◌, Bool, true, false, ◌&&◌, List, [], ◌∷◌, ◌++◌, map, Option, Some, None, refl, sym, ◌∙◌, ap, arith, ℤ, pos}
 use Rattle.std.specs.List.{cons_option}
-use Rattle.std.specs.Prelude.{filter_map, if◌then◌else◌, int_le, int_lt, ◌-ℤ◌, ◌+ℤ◌}
+use Rattle.std.specs.Prelude.{filter_map, if◌then◌else◌, ◌-ℤ◌}
 use Rattle.std.proofs.lemmas.Bool.{and_parts, and_from}
 use Rattle.std.proofs.lemmas.Int.{ints}
 use Rattle.std.proofs.lemmas.List.{append-nil}
@@ -13,10 +13,10 @@ use Rattle.desk_laws.specs.declared.row_id.RowId.{RowId}
 use Rattle.desk_laws.specs.declared.setup.Setup.{Setup}
 use Rattle.desk_laws.specs.Rows.{Row, is_shown, outer, row_at}
 use Rattle.desk_laws.specs.Layers.{last_that}
-use Rattle.desk_laws.specs.Picture.{pixels, colour_by, colour_read, label_of, content_under}
+use Rattle.desk_laws.specs.Picture.{pixels, colour_by, colour_read, label_of}
 use Rattle.desk_laws.proofs.PaintLemmas.{last_that-push, blank-content}
 use Rattle.guid_main.specs.declared.windows.Window.{Window}
-use Rattle.guid_main.specs.WindowsView.{row_of, id_in, colour_under}
+use Rattle.guid_main.specs.WindowsView.{row_of, colour_under}
 
 pub map-agree : {X : Type 0} (f g : X → ℕ) → ((x : X) → f x ≡ g x) → (xs : List X) → map f xs ≡ map g xs
 map-agree f g same [] = refl

@@ -1,14 +1,13 @@
 -- A piece of a guest's bytes, unit by unit.
-use Rattle.std.proofs.Common.{◌≡◌, ℕ, ◌<◌, Bool, true, false, List, [], ◌∷◌, ◌++◌, length, drop, take, Option, Some, None, is_some, refl, sym, ◌∙◌, ap, subst, arith}
-use Rattle.std.specs.Prelude.{if◌then◌else◌}
+use Rattle.std.proofs.Common.{◌≡◌, ℕ, Bool, true, false, List, Option, Some, None, is_some, refl, sym, ◌∙◌, ap, subst}
 use Rattle.std.proofs.lemmas.List.{append-nil}
 use Rattle.desk_laws.specs.declared.cause.Cause.{Cause}
 use Rattle.desk_laws.specs.declared.setup.Setup.{Setup}
-use Rattle.desk_laws.specs.Stream.{StreamUnit, Word, Stop, Whole, Front, Wait, Fault, Takes, front, Cut, cut}
+use Rattle.desk_laws.specs.Stream.{StreamUnit, Stop, Fault, Takes, front, Cut, cut}
 use Rattle.desk_laws.specs.Scene.{Post, Ended}
-use Rattle.desk_laws.specs.State.{DeskState, StepOutcome, Session, session_of, stays, step_after}
+use Rattle.desk_laws.specs.State.{DeskState, StepOutcome, session_of, stays, step_after}
 use Rattle.desk_laws.specs.Steps.{take_unit, take_units}
-use Rattle.desk_laws.proofs.CuttingLemmas.{cut-takes, cut-waits, cut-faults}
+use Rattle.desk_laws.proofs.CuttingLemmas.{cut-takes, cut-faults}
 use Rattle.desk_laws.proofs.UnitLemmas.{units-left}
 use Rattle.io_ports.specs.Posts.{Leads}
 use Rattle.guid_main.specs.declared.desk.Desk.{Desk}
@@ -97,9 +96,9 @@ along-more takes first out out' setup rest old new bytes behind whole along took
       stands = took.leads.0;
       left = λ e. sym (took.left e) ∙ along.left took.going;
       posts = λ end leads.
-        let Q : List Post → Type 0 = λ ps. Leads takes out ps end in
-        let R : StepOutcome → Type 0 = λ o. Leads takes out (guest_posts o.posts) end in
-        along.posts end (subst R (sym took.all) (subst Q (sym (guest-append took.outcome.posts more.posts)) (leads-append takes (guest_posts took.outcome.posts) (guest_posts more.posts) out out' end took.leads.1 leads)));
+          let Q : List Post → Type 0 = λ ps. Leads takes out ps end in
+          let R : StepOutcome → Type 0 = λ o. Leads takes out (guest_posts o.posts) end in
+          along.posts end (subst R (sym took.all) (subst Q (sym (guest-append took.outcome.posts more.posts)) (leads-append takes (guest_posts took.outcome.posts) (guest_posts more.posts) out out' end took.leads.1 leads)));
       end_state = along.end_state ∙ ap (λ (o : StepOutcome). o.desk) took.all;
     }
 

@@ -1,13 +1,12 @@
 -- A piece of a guest's bytes, from the definitions to the desk.
-use Rattle.std.proofs.Common.{◌≡◌, ℕ, Bool, true, false, ◌||◌, List, [], ◌∷◌, ◌++◌, Option, Some, None, is_some, refl, sym, ◌∙◌, ap, subst}
+use Rattle.std.proofs.Common.{◌≡◌, ℕ, Bool, true, false, List, [], ◌∷◌, ◌++◌, refl, sym, ◌∙◌, ap, subst}
 use Rattle.std.specs.Prelude.{if◌then◌else◌}
 use Rattle.std.proofs.lemmas.List.{append-nil}
-use Rattle.desk_laws.specs.declared.cause.Cause.{Cause}
 use Rattle.desk_laws.specs.declared.cause.Cause.TheVariants.{StreamEnded}
 use Rattle.desk_laws.specs.declared.setup.Setup.{Setup}
 use Rattle.desk_laws.specs.Stream.{cut}
 use Rattle.desk_laws.specs.Scene.{Post, Ended, Closing}
-use Rattle.desk_laws.specs.State.{DeskState, StepOutcome, Session, session_of, with_session, stays, step_after, and_next}
+use Rattle.desk_laws.specs.State.{DeskState, StepOutcome, session_of, with_session, stays, step_after}
 use Rattle.desk_laws.specs.Steps.{take_bytes, bytes_of_open, take_cut, rest_of_open, take_units, cut_short, end_session, end_of_open, ends, is_nil}
 use Rattle.io_ports.specs.Posts.{Leads}
 use Rattle.guid_main.specs.declared.desk.Desk.{Desk}
@@ -37,7 +36,7 @@ bytes-over takes out out' setup old new piece whole state stands over taken =
     let c = some-of (session_of 0 state).ended (stands.ended ∙ over) in
     let led = taken [] state stands (λ e. cc) in
     let same : taken_from setup old.greeted piece state ≡ bytes_of_open setup 0 piece (session_of 0 state).ended state =
-        over-stays setup [] old state (cut old.greeted piece).units stands over ∙ sym (ap (λ e. bytes_of_open setup 0 piece e state) c.1) in
+    over-stays setup [] old state (cut old.greeted piece).units stands over ∙ sym (ap (λ e. bytes_of_open setup 0 piece e state) c.1) in
     let P : StepOutcome → Type 0 = λ o. LeadsTo takes out out' setup [] new o in
     record { rest = []; leads = subst P same led.0; left = led.1 }
 
@@ -50,10 +49,10 @@ bytes-open takes out out' setup old new piece whole state stands going taken =
     let led = taken rest begun (rest-stands setup [] rest old state stands going) (λ _. refl) in
     let empty : (session_of 0 state).rest ≡ [] = stands.left ∙ ap (λ b. if b then [] else []) going in
     let same : bytes_of_open setup 0 piece (session_of 0 state).ended state ≡ taken_from setup old.greeted piece begun =
-        ap (λ e. bytes_of_open setup 0 piece e state) none
-        ∙ ap (λ r. take_cut setup 0 (cut (session_of 0 state).greeted (r ++ piece)) state) empty
-        ∙ ap (λ g. take_cut setup 0 (cut g piece) state) stands.greeted
-        ∙ ap (λ e. take_units setup 0 (cut old.greeted piece).units (rest_of_open 0 rest e state)) none in
+    ap (λ e. bytes_of_open setup 0 piece e state) none
+    ∙ ap (λ r. take_cut setup 0 (cut (session_of 0 state).greeted (r ++ piece)) state) empty
+    ∙ ap (λ g. take_cut setup 0 (cut g piece) state) stands.greeted
+    ∙ ap (λ e. take_units setup 0 (cut old.greeted piece).units (rest_of_open 0 rest e state)) none in
     let P : StepOutcome → Type 0 = λ o. LeadsTo takes out out' setup rest new o in
     record { rest = rest; leads = subst P (sym same) led.0; left = led.1 }
 
@@ -103,13 +102,14 @@ piece-cut takes out mid out' setup new last piece whole state taken going some m
     let e = ends setup 0 Closing (StreamEnded 0 0) o.desk in
     let left : (session_of 0 o.desk).rest ≡ taken.rest = stands.left ∙ ap (λ b. if b then [] else taken.rest) going in
     let same : cut_short setup 0 o.desk ≡ e =
-        ap (λ b. if b then stays o.desk else end_session setup 0 Closing (StreamEnded 0 0) o.desk) (ap is_nil left ∙ some)
-        ∙ ap (λ c. end_of_open setup 0 Closing (StreamEnded 0 0) c o.desk) (still_open setup taken.rest new o.desk stands going) in
+    ap (λ b. if b then stays o.desk else end_session setup 0 Closing (StreamEnded 0 0) o.desk) (ap is_nil left ∙ some)
+    ∙ ap (λ c. end_of_open setup 0 Closing (StreamEnded 0 0) c o.desk) (still_open setup taken.rest new o.desk stands going) in
     let P : StepOutcome → Type 0 = λ x. LeadsTo takes out out' setup [] last (step_after o x) in
     let Q : Desk → Type 0 = λ d. Stands setup d e.desk in
     let R : List Post → Type 0 = λ ps. Leads takes out ps out' in
     let ended : StandsWith setup taken.rest (ended_desk new) e.desk = ends-stands setup taken.rest new o.desk Closing (StreamEnded 0 0) stands in
-    subst P (sym same)
-    (subst Q (sym made) (no-rest-stands setup taken.rest (ended_desk new) e.desk ended (λ f. cc)),
-     subst R (sym (guest-append o.posts (Ended 0 (StreamEnded 0 0) ∷ [])))
-        (leads-append takes (guest_posts o.posts) (Ended 0 (StreamEnded 0 0) ∷ []) out mid out' taken.leads.1 (out', told, refl)))
+    subst P (sym same) (
+      subst Q (sym made) (no-rest-stands setup taken.rest (ended_desk new) e.desk ended (λ f. cc)),
+      subst R (sym (guest-append o.posts (Ended 0 (StreamEnded 0 0) ∷ [])))
+          (leads-append takes (guest_posts o.posts) (Ended 0 (StreamEnded 0 0) ∷ []) out mid out' taken.leads.1 (out', told, refl)),
+    )

@@ -1,26 +1,24 @@
 -- How a desk keeps standing for a state, unit by unit.
-use Rattle.std.proofs.Common.{◌≡◌, ℕ, zero, suc, ◌+◌, ◌-◌, ◌<◌, ◌≤◌, ◌^◌, min, Bool, true, false, ◌&&◌, ◌||◌, not, ◌==◌, List, [], ◌∷◌, ◌++◌, length, get_or, set, map, Option, Some, None, is_some, replicate, refl, sym, ◌∙◌, ap, subst, arith, length-set}
-use Rattle.std.specs.Prelude.{filter, if◌then◌else◌}
-use Rattle.std.proofs.lemmas.List.{append-nil, length-replicate}
+use Rattle.std.proofs.Common.{◌≡◌, ℕ, ◌+◌, ◌-◌, ◌<◌, ◌≤◌, ◌^◌, Bool, true, false, ◌||◌, List, [], ◌++◌, length, get_or, map, Some, is_some, replicate, refl, sym, ◌∙◌, ap, subst, arith, length-set}
+use Rattle.std.specs.Prelude.{if◌then◌else◌}
+use Rattle.std.proofs.lemmas.List.{length-replicate}
 use Rattle.gui_wire.specs.declared.Header.{Header}
 use Rattle.desk_laws.specs.declared.cause.Cause.{Cause}
 use Rattle.desk_laws.specs.declared.setup.Setup.{Setup}
-use Rattle.desk_laws.specs.Sizes.{Sizes, sizes_of}
-use Rattle.desk_laws.specs.Stream.{StreamUnit, Word, Stop, Whole}
-use Rattle.desk_laws.specs.Rows.{Row, id_of, mine}
+use Rattle.desk_laws.specs.Stream.{Word, Whole}
+use Rattle.desk_laws.specs.Rows.{Row}
 use Rattle.desk_laws.specs.Layers.{layer_of, staying, coming}
 use Rattle.desk_laws.specs.Frames.{counted}
-use Rattle.desk_laws.specs.Effects.{Change, Same, Cleared, Verdict, Goes, Greets, changed}
-use Rattle.desk_laws.specs.Scene.{Input, Post}
+use Rattle.desk_laws.specs.Effects.{Change, Same, Cleared, Goes, Greets, changed}
+use Rattle.desk_laws.specs.Scene.{Input}
 use Rattle.desk_laws.specs.State.{DeskState, Session, session_of, with_session, opening, count_item, fresh}
 use Rattle.desk_laws.specs.Steps.{ends, went}
 use Rattle.desk_laws.proofs.UnitLemmas.{effect_of, session-put}
 use Rattle.guid_main.specs.declared.desk.Desk.{Desk}
-use Rattle.guid_main.specs.PictureView.{PictureView}
 use Rattle.guid_main.specs.WindowsView.{WindowsView, row_of, id_in}
 use Rattle.guid_main.specs.DeskStands.{StandsWith, Stands, HasNumbers, ended_desk, message_taken, greeted_desk, item_counted}
 use Rattle.guid_main.specs.WindowChanges.{AreSound, Changes}
-use Rattle.guid_main.proofs.ChangeLemmas.{no_windows, changes-cleared, changes-same, mine-all, none-over}
+use Rattle.guid_main.proofs.ChangeLemmas.{no_windows, changes-cleared, changes-same, none-over}
 
 -- the other layer stays empty
 over-empty : (table : List _) (rows : List Row) (over : List _) → rows ≡ map row_of table → over ≡ []
@@ -42,13 +40,20 @@ ends-stands setup rest desk state input cause stands =
     let put : session_of 0 (with_session 0 session state) ≡ session = session-put 0 session state (there setup rest desk state stands) in
     record {
       numbers = record {
-        width = stands.numbers.width; height = stands.numbers.height; border = stands.numbers.border; pages = stands.numbers.pages;
-        background = stands.numbers.background; label = stands.numbers.label; wide = stands.numbers.wide; high = stands.numbers.high; narrow = stands.numbers.narrow;
+        width = stands.numbers.width;
+        height = stands.numbers.height;
+        border = stands.numbers.border;
+        pages = stands.numbers.pages;
+        background = stands.numbers.background;
+        label = stands.numbers.label;
+        wide = stands.numbers.wide;
+        high = stands.numbers.high;
+        narrow = stands.numbers.narrow;
       };
       rows = rows;
       normal =
-        ap (λ rs. staying (layer_of false rs) state.scene.layers.normal ++ coming (layer_of false rs) state.scene.layers.normal) rows
-        ∙ ap (λ ids. staying (layer_of false []) ids ++ coming (layer_of false []) ids) stands.normal ∙ change.normal;
+          ap (λ rs. staying (layer_of false rs) state.scene.layers.normal ++ coming (layer_of false rs) state.scene.layers.normal) rows
+          ∙ ap (λ ids. staying (layer_of false []) ids ++ coming (layer_of false []) ids) stands.normal ∙ change.normal;
       over = over-empty [] (changed 0 Cleared state.scene.rows) state.scene.layers.over rows stands.over;
       sound = change.sound;
       one = length-set state.sessions 0 session ∙ stands.one;
@@ -80,8 +85,15 @@ goes-stands setup rest desk state header body change answers new stands changes 
     let rows : changed 0 change state.scene.rows ≡ map row_of new.table = ap (changed 0 change) stands.rows ∙ changes.rows in
     record {
       numbers = record {
-        width = stands.numbers.width; height = stands.numbers.height; border = stands.numbers.border; pages = stands.numbers.pages;
-        background = stands.numbers.background; label = stands.numbers.label; wide = stands.numbers.wide; high = stands.numbers.high; narrow = stands.numbers.narrow;
+        width = stands.numbers.width;
+        height = stands.numbers.height;
+        border = stands.numbers.border;
+        pages = stands.numbers.pages;
+        background = stands.numbers.background;
+        label = stands.numbers.label;
+        wide = stands.numbers.wide;
+        high = stands.numbers.high;
+        narrow = stands.numbers.narrow;
       };
       rows = rows;
       normal = normal-after setup rest desk state change new stands changes;
@@ -107,8 +119,15 @@ greets-stands setup rest desk state word minor answers stands =
     let kept : counted (desk.messages + 0) ≡ desk.messages = omega (arith, stands.in_range) in
     record {
       numbers = record {
-        width = stands.numbers.width; height = stands.numbers.height; border = stands.numbers.border; pages = stands.numbers.pages;
-        background = stands.numbers.background; label = stands.numbers.label; wide = stands.numbers.wide; high = stands.numbers.high; narrow = stands.numbers.narrow;
+        width = stands.numbers.width;
+        height = stands.numbers.height;
+        border = stands.numbers.border;
+        pages = stands.numbers.pages;
+        background = stands.numbers.background;
+        label = stands.numbers.label;
+        wide = stands.numbers.wide;
+        high = stands.numbers.high;
+        narrow = stands.numbers.narrow;
       };
       rows = stands.rows;
       normal = normal-after setup rest desk state Same desk.windows stands changes;
@@ -127,8 +146,15 @@ greets-stands setup rest desk state word minor answers stands =
 pub counts-stands : (setup : Setup) (rest : List ℕ) (desk : Desk) (state : DeskState) → StandsWith setup rest desk state → StandsWith setup rest (item_counted desk) (count_item state)
 counts-stands setup rest desk state stands = record {
   numbers = record {
-    width = stands.numbers.width; height = stands.numbers.height; border = stands.numbers.border; pages = stands.numbers.pages;
-    background = stands.numbers.background; label = stands.numbers.label; wide = stands.numbers.wide; high = stands.numbers.high; narrow = stands.numbers.narrow;
+    width = stands.numbers.width;
+    height = stands.numbers.height;
+    border = stands.numbers.border;
+    pages = stands.numbers.pages;
+    background = stands.numbers.background;
+    label = stands.numbers.label;
+    wide = stands.numbers.wide;
+    high = stands.numbers.high;
+    narrow = stands.numbers.narrow;
   };
   rows = stands.rows;
   normal = stands.normal;

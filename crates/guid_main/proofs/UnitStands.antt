@@ -1,15 +1,14 @@
 -- One unit of a session that is open, from the definitions to the desk.
-use Rattle.std.proofs.Common.{◌≡◌, ℕ, ◌/◌, ◌%◌, Bool, true, false, ◌==◌, List, [], ◌∷◌, ◌++◌, map, Option, Some, None, is_some, refl, sym, ◌∙◌, ap, subst}
+use Rattle.std.proofs.Common.{◌≡◌, ℕ, ◌/◌, ◌%◌, false, ◌==◌, List, [], map, Option, Some, None, is_some, refl, sym, ◌∙◌, ap, subst}
 use Rattle.std.specs.Prelude.{if◌then◌else◌}
 use Rattle.gui_wire.specs.declared.Header.{Header}
-use Rattle.gui_wire.specs.AgentMessages.{reading}
 use Rattle.desk_laws.specs.declared.cause.Cause.{Cause}
-use Rattle.desk_laws.specs.declared.cause.Cause.TheVariants.{BadVersion, BadType}
+use Rattle.desk_laws.specs.declared.cause.Cause.TheVariants.{BadVersion}
 use Rattle.desk_laws.specs.declared.setup.Setup.{Setup}
-use Rattle.desk_laws.specs.Sizes.{Sizes, sizes_of}
-use Rattle.desk_laws.specs.Stream.{StreamUnit, Word, Stop, Whole}
+use Rattle.desk_laws.specs.Sizes.{sizes_of}
+use Rattle.desk_laws.specs.Stream.{StreamUnit, Word, Whole}
 use Rattle.desk_laws.specs.Rows.{mine}
-use Rattle.desk_laws.specs.Effects.{Change, Verdict, Goes, Greets, Ends, verdict, greeting, message_verdict, told_verdict}
+use Rattle.desk_laws.specs.Effects.{Change, Goes, Greets, Ends, verdict, greeting}
 use Rattle.desk_laws.specs.Scene.{Post, Ended, Took, replies}
 use Rattle.desk_laws.specs.State.{DeskState, StepOutcome, session_of}
 use Rattle.desk_laws.specs.Steps.{take_unit, ends, went}
@@ -18,7 +17,6 @@ use Rattle.io_ports.specs.Posts.{Leads}
 use Rattle.guid_main.specs.declared.desk.Desk.{Desk}
 use Rattle.guid_main.specs.WindowsView.{WindowsView, row_of}
 use Rattle.guid_main.specs.WindowChanges.{Changes}
-use Rattle.guid_main.specs.DeskPosts.{guest_posts}
 use Rattle.guid_main.specs.DeskStands.{StandsWith, LeadsTo, ended_desk, greeted_desk, message_taken}
 use Rattle.guid_main.proofs.ChangeLemmas.{mine-all}
 use Rattle.guid_main.proofs.StandLemmas.{ends-stands, goes-stands, greets-stands}
@@ -53,7 +51,7 @@ word-greets takes out out' setup rest desk new state word stands going major mad
     let answers = greeting (sizes_of setup) (word % 65536) in
     let v = Greets (word % 65536) answers in
     let is : verdict (sizes_of setup) 0 (session_of 0 state).minor (mine 0 state.scene.rows) (Word word) ≡ v =
-        ap (λ n. if n == 1 then v else Ends (BadVersion word 0)) major in
+    ap (λ n. if n == 1 then v else Ends (BadVersion word 0)) major in
     let taken : take_unit setup 0 (Word word) state ≡ went setup 0 (Word word) (effect_of 0 state v) state = taken-by setup 0 (Word word) state v (still_open setup rest desk state stands going) is in
     let P : StepOutcome → Type 0 = λ o. LeadsTo takes out out' setup rest new o in
     let Q : Desk → Type 0 = λ d. StandsWith setup rest d (went setup 0 (Word word) (effect_of 0 state v) state).desk in

@@ -1,5 +1,5 @@
 -- The table of windows: its mapped ones, and where an id stands.
-use Rattle.std.proofs.Common.{◌≡◌, ℕ, zero, suc, ◌+◌, ◌<◌, ◌≤◌, Bool, true, false, List, [], ◌∷◌, length, get_or, set, count_by, cond, refl, sym, ◌∙◌, ap, arith, length-set}
+use Rattle.std.proofs.Common.{◌≡◌, ℕ, zero, suc, ◌<◌, ◌≤◌, Bool, true, false, List, [], ◌∷◌, length, get_or, set, count_by, cond, refl, sym, ◌∙◌, ap, arith, length-set}
 use Rattle.std.specs.Prelude.{◌==◌, find, position, slice_get, map, is_some, ◌||◌, if◌then◌else◌, option_map, Option, Some, None}
 use Rattle.std.specs.List.{position_or_len}
 use Rattle.std.proofs.lemmas.Bool.Decides.{nat_tests}
@@ -60,6 +60,7 @@ known-is table id =
     some-mapped : (o : Option Window) → is_some (option_map row_of o) ≡ is_some o
     some-mapped None = refl
     some-mapped (Some w) = refl
+
     by_place : (o : Option ℕ) → position (λ v. v.id == id) table ≡ o → is_some o ≡ is_some (find (λ v. v.id == id) table)
     by_place None e = sym (ap is_some (position-fails (λ v. v.id == id) table e))
     by_place (Some i) e = sym (ap is_some (position-finds (λ v. v.id == id) table i e) ∙ some-within table i (position-below (λ v. v.id == id) table i e))
@@ -71,6 +72,7 @@ not-among (w ∷ table) id none = by_test (w.id == id) (id == w.id) (swapped w.i
   where
     swapped : (a b : ℕ) → (a == b) ≡ (b == a)
     swapped a b = grind (arith, nat_tests)
+
     by_test : (t u : Bool) → t ≡ u → is_some (if t then Some (row_of w) else row_with id (map row_of table)) ≡ false
         → (is_some (row_with id (map row_of table)) ≡ false → is_in (map id_of (map row_of table)) (id_in id) ≡ false)
         → (u || is_in (map id_of (map row_of table)) (id_in id)) ≡ false

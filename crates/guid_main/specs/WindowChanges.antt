@@ -1,5 +1,5 @@
 -- How the windows follow a change of the rows.
-use Rattle.std.specs.Prelude.{◌≡◌, ℕ, Bool, true, false, List, [], ◌++◌, map}
+use Rattle.std.specs.Prelude.{◌≡◌, ℕ, Bool, true, false, [], ◌++◌, map}
 use Rattle.desk_laws.specs.declared.cause.Cause.TheVariants.{BadType}
 use Rattle.desk_laws.specs.Rows.{id_of}
 use Rattle.desk_laws.specs.Layers.{are_apart, HaveSame, layer_of, staying, coming}

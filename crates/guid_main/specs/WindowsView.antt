@@ -1,5 +1,5 @@
 -- The guest's windows, and the rows that they stand for.
-use Rattle.std.specs.Prelude.{◌&&◌, filter_map, ◌≡◌, ℕ, ◌≤◌, List, length, map, count_by, vec_len, vec_capacity, ℤ, pos, negsuc, ◌≤ℤ◌}
+use Rattle.std.specs.Prelude.{◌&&◌, filter_map, ◌≡◌, ℕ, ◌≤◌, List, length, count_by, pos, negsuc, ◌≤ℤ◌}
 use Rattle.std.specs.List.{All}
 use Rattle.gui_num.specs.declared.Point.{Point}
 use Rattle.gui_num.specs.declared.Rect.{Rect}

@@ -117,6 +117,7 @@ impl Desk {
 
     // Takes the version word, whose upper half is the major version.
     fn take_word<O: Outlet>(&mut self, word: u32, out: &mut O)
+        ensures kept { self.new.picture ≡ self.old.picture }
         ensures greeted { self.new.ended ≡ false → self.new.greeted ≡ true }
         ensures took { (setup : Setup) (rest : List ℕ) (state : DeskState) → StandsWith setup rest self.old state → self.old.ended ≡ false → LeadsTo O.takes out.old out.new setup rest self.new (take_unit setup 0 (Word word) state) }
     {
@@ -132,6 +133,7 @@ impl Desk {
     fn take_message<O: Outlet>(&mut self, header: Header, body: &[u8], out: &mut O)
         requires len { length body.now ≡ header.len }
         requires taken { head_fault header ≡ None }
+        ensures kept { self.new.picture ≡ self.old.picture }
         ensures greeted { self.new.greeted ≡ self.old.greeted }
         ensures took { (setup : Setup) (rest : List ℕ) (state : DeskState) → StandsWith setup rest self.old state → self.old.ended ≡ false → LeadsTo O.takes out.old out.new setup rest self.new (take_unit setup 0 (Whole header body.now) state) }
     {
@@ -149,6 +151,7 @@ impl Desk {
     // Takes the first unit off the bytes, and answers how many bytes it had; `None` where the session
     // ended, or no whole unit is left.
     fn take_front<O: Outlet>(&mut self, bytes: &[u8], out: &mut O) -> Option<usize>
+        ensures kept { self.new.picture ≡ self.old.picture }
         ensures took { (setup : Setup) (rest : List ℕ) (state : DeskState) → StandsWith setup rest self.old state → MatchOption result (TookAll O.takes out.old out.new setup rest self.old self.new bytes.now state) (λ n. TookOne O.takes out.old out.new setup rest self.old self.new bytes.now (drop n bytes.now) state) }
         ensures size { IfSome result (λ n. (0 < n) × (n ≤ length bytes.now)) }
     {
@@ -176,7 +179,8 @@ impl Desk {
     // Takes all whole units off a piece, until one ends the session, and answers whether no byte is
     // left.
     fn take_units<O: Outlet>(&mut self, piece: &[u8], out: &mut O) -> bool
-        ensures { (setup : Setup) (rest : List ℕ) (state : DeskState) → StandsWith setup rest self.old state → (self.old.ended ≡ false → (cut self.old.greeted piece.now).rest ≡ rest) → LeadsTo O.takes out.old out.new setup rest self.new (taken_from setup self.old.greeted piece.now state) × (self.new.ended ≡ false → result ≡ is_nil rest) }
+        ensures kept { self.new.picture ≡ self.old.picture }
+        ensures took { (setup : Setup) (rest : List ℕ) (state : DeskState) → StandsWith setup rest self.old state → (self.old.ended ≡ false → (cut self.old.greeted piece.now).rest ≡ rest) → LeadsTo O.takes out.old out.new setup rest self.new (taken_from setup self.old.greeted piece.now state) × (self.new.ended ≡ false → result ≡ is_nil rest) }
     {
         let mut left = piece;
         while let Some(size) = self.take_front(left, out) {
@@ -187,7 +191,8 @@ impl Desk {
 
     // Takes a piece of the guest's bytes. A session that is left with a part of a unit ends.
     fn take_piece<O: Outlet>(&mut self, piece: &[u8], out: &mut O)
-        ensures { (setup : Setup) (state : DeskState) → Stands setup self.old state → LeadsTo O.takes out.old out.new setup [] self.new (take_bytes setup 0 piece.now state) }
+        ensures kept { self.new.picture ≡ self.old.picture }
+        ensures took { (setup : Setup) (state : DeskState) → Stands setup self.old state → LeadsTo O.takes out.old out.new setup [] self.new (take_bytes setup 0 piece.now state) }
     {
         let is_whole = self.take_units(piece, out);
         if self.ended {

@@ -19,8 +19,8 @@ ghost use Rattle.guid_main.specs.WindowsView.{IsPlace, row_of, id_in, colour_und
 ghost use Rattle.guid_main.specs.declared.windows.Window.{Window};
 
 use crate::picture::Picture;
-use gui_wire::{AgentMsg, Header, body_of};
 use gui_num::{Colour, NoMemory, Rect, grow};
+use gui_wire::{AgentMsg, Header, body_of};
 use std::alloc::Global;
 use std::marker::Model;
 

@@ -16,7 +16,7 @@ returns-clause-pixels c = λ setup state stands.
     let begun = subst blank (sym c.begin.ensures) (ap (λ k. map (λ _. k) (pixels 0 0 desk.picture.width desk.picture.height)) n.background) in
     let border : setup.border ≡ c.pixels-border.result = sym (c.pixels-border.ensures.is ∙ n.border) in
     let ids : state.scene.layers.normal ++ state.scene.layers.over ≡ map id_in desk.windows.stack =
-        ap (λ (l : List RowId). l ++ state.scene.layers.over) stands.normal ∙ ap (λ (l : List RowId). map id_in desk.windows.stack ++ l) stands.over ∙ append-nil (map id_in desk.windows.stack) in
+    ap (λ (l : List RowId). l ++ state.scene.layers.over) stands.normal ∙ ap (λ (l : List RowId). map id_in desk.windows.stack ++ l) stands.over ∙ append-nil (map id_in desk.windows.stack) in
     let wide : c.begin.new.self.width ≡ setup.width = ap (λ (v : PictureView). v.width) c.begin.ensures ∙ n.width in
     let high : c.begin.new.self.height ≡ setup.height = ap (λ (v : PictureView). v.height) c.begin.ensures ∙ n.height in
     same-sides _ c.begin.new.self.width c.begin.new.self.height setup.width setup.height c.draw.new.picture.pixels (sym wide) (sym high)
