@@ -23,7 +23,7 @@ use crate::run::run;
 use crate::status::Status;
 use io_ports::{RecordKind, StdSink, StdSource};
 use std::env;
-use std::io::{self, BufReader, BufWriter, Write};
+use std::io::{self, BufReader, BufWriter, ErrorKind, Write};
 use std::process::ExitCode;
 
 fn code_of(status: &Status) -> u8 {
@@ -93,6 +93,7 @@ fn words_of(rt: &HostRuntime) -> io::Result<Vec<String>> {
 fn main(rt: HostRuntime) -> io::Result<ExitCode> {
     let status = match words_of(&rt) {
         Ok(words) => run_streams(&rt, &words),
+        Err(error) if error.kind() == ErrorKind::OutOfMemory => Status::NoMemory,
         Err(_) => Status::Usage,
     };
     tell(&rt, &status)?;
