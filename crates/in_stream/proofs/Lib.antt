@@ -1,3 +1,4 @@
 pub mod StandsLemmas
 pub mod TakingLemmas
 pub mod FrontLemmas
+pub mod CallerLemmas

@@ -7,6 +7,8 @@
 
 mod buffer;
 mod stream;
+#[cfg(test)]
+mod tests;
 
 use gui_wire::{Header, WireFault};
 pub use stream::InStream;
