@@ -8,7 +8,6 @@ use Rattle.gui_wire.specs.AgentMessages.{AgentMessage, reading}
 use Rattle.gui_wire.specs.DaemonMessages as daemon
 use Rattle.gui_wire.specs.DaemonMessages.{DaemonMessage, daemon_spelling}
 use Rattle.desk_laws.specs.Sizes.{Sizes}
-use Rattle.desk_laws.specs.Stage.{told_cause}
 use Rattle.desk_laws.specs.declared.cause.Cause.{Cause}
 use Rattle.desk_laws.specs.declared.cause.Cause.TheVariants.{BadVersion, BadType, BadLength, BadRange, UnknownWindow, WindowExists, TooManyWindows, RefRange, FrameBudget, PixelBudget}
 use Rattle.desk_laws.specs.Stream.{StreamUnit, Word, Stop, Whole}
@@ -87,12 +86,6 @@ too_many own window = if nat_lt (length own) 1024 then None else Some (TooManyWi
 abbrev pub bad_ref : ℕ → List ℕ → Option Cause
 bad_ref pages [] = None
 bad_ref pages (ref ∷ refs) = if nat_lt ref pages then bad_ref pages refs else Some (RefRange ref pages)
-
--- whether a CREATE is accepted among its guest's rows
-abbrev pub admits : ℕ → ℕ → ℕ → List Row → Bool
-admits window width height own =
-    (not (window == 0) && (nat_lt width (2 ^ 31) && nat_lt height (2 ^ 31)))
-    && (not (is_some (row_with window own)) && nat_lt (length own) 1024)
 
 abbrev pub refs_of : Option DumpOf → ℕ
 refs_of None = 0
@@ -361,18 +354,13 @@ xconf sizes = words (sizes.width ∷ sizes.height ∷ 24 ∷ (sizes.width * size
 abbrev pub greeting : Sizes → ℕ → List (List ℕ)
 greeting sizes minor = if nat_le 4 minor then word 65543 ∷ xconf sizes ∷ [] else xconf sizes ∷ []
 
--- a verdict with its cause as it is told
-abbrev pub told_verdict : ℕ → Verdict → Verdict
-told_verdict kind (Ends cause) = Ends (told_cause kind cause)
-told_verdict kind verdict = verdict
-
 -- what a unit does, decided from its guest's own rows
 abbrev pub verdict : Sizes → ℕ → ℕ → List Row → StreamUnit → Verdict
 verdict sizes guest minor own (Word w) =
     if w / 65536 == 1 then Greets (w % 65536) (greeting sizes (w % 65536)) else Ends (BadVersion w 0)
 verdict sizes guest minor own (Stop cause) = Ends cause
 verdict sizes guest minor own (Whole header body) =
-    told_verdict header.kind (message_verdict sizes guest minor own header (reading header.kind body))
+    message_verdict sizes guest minor own header (reading header.kind body)
 
 -- ---- the effect
 

@@ -1,5 +1,5 @@
 -- The stack of the mapped rows, and the focus list.
-use Rattle.std.specs.Prelude.{◌≡◌, ℕ, Bool, true, false, ◌&&◌, not, List, [], ◌∷◌, ◌++◌, map, filter, filter_map, Option, Some, None, if◌then◌else◌}
+use Rattle.std.specs.Prelude.{◌≡◌, ℕ, ◌+◌, Bool, true, false, ◌&&◌, not, List, [], ◌∷◌, ◌++◌, length, map, reverse, filter, filter_map, Option, Some, None, if◌then◌else◌, slice_get}
 use Rattle.std.specs.List.{list_any}
 use Rattle.gui_num.specs.declared.Point.{Point}
 use Rattle.gui_num.specs.Rects.{has}
@@ -70,6 +70,42 @@ raised id layers = record {
   over = to_end id layers.over;
   focus = to_end id layers.focus;
 }
+
+-- a row that comes: into its layer on top, and into the focus list at the front
+abbrev pub entered : RowId → Bool → Layers → Layers
+entered id over layers = record {
+  normal = if over then layers.normal else layers.normal ++ id ∷ [];
+  over = if over then layers.over ++ id ∷ [] else layers.over;
+  focus = id ∷ layers.focus;
+}
+
+-- a row that goes
+abbrev pub departed : RowId → Layers → Layers
+departed id layers = record {
+  normal = without id layers.normal;
+  over = without id layers.over;
+  focus = without id layers.focus;
+}
+
+-- a row that changes into the other layer comes there on top; one that is in that layer already stays
+abbrev pub relayered : RowId → Bool → Layers → Layers
+relayered id true layers =
+    if is_in layers.over id then layers
+    else record layers { normal = without id layers.normal; over = layers.over ++ id ∷ [] }
+relayered id false layers =
+    if is_in layers.normal id then layers
+    else record layers { normal = layers.normal ++ id ∷ []; over = without id layers.over }
+
+-- no row stands in them twice, and the focus list has exactly the rows of both layers
+pub record HaveRowsOnce (layers : Layers) : Type 0 where
+  pub stacked_once : are_apart (layers.normal ++ layers.over) ≡ true
+  pub listed_once : are_apart layers.focus ≡ true
+  pub same : HaveSame layers.focus (layers.normal ++ layers.over)
+  pub counted : length layers.focus ≡ length layers.normal + length layers.over
+
+-- the row that stands k places below the top of the override layer, the normal layer being below it
+abbrev pub id_from_top : Layers → ℕ → Option RowId
+id_from_top layers k = slice_get (reverse (layers.normal ++ layers.over)) k
 
 -- ---- the topmost row
 

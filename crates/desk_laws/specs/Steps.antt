@@ -18,7 +18,6 @@ use Rattle.desk_laws.specs.State.{DeskState, StepOutcome, Session, stays, and_ne
 use Rattle.desk_laws.specs.Settle.{settle}
 use Rattle.desk_laws.specs.Events.{route}
 use Rattle.desk_laws.specs.Items.{FedItem}
-use Rattle.desk_laws.specs.Stage.{keeps_rest}
 
 -- how many bytes the clipboard holds (qubes-gui-protocol.h, MAX_CLIPBOARD_SIZE)
 abbrev pub clip_limit : ℕ
@@ -110,11 +109,6 @@ take_units setup guest (unit ∷ units) desk = and_next (take_unit setup guest u
 
 -- ---- items
 
--- whether a list is empty
-abbrev pub is_nil : List ℕ → Bool
-is_nil [] = true
-is_nil (b ∷ bytes) = false
-
 -- the rest of a session, unless it has ended
 abbrev pub rest_of_open : ℕ → List ℕ → Option Cause → DeskState → DeskState
 rest_of_open guest rest (Some cause) desk = desk
@@ -143,16 +137,9 @@ end_of_open setup guest input cause None desk = ends setup guest input cause des
 abbrev pub end_session : Setup → ℕ → Input → Cause → DeskState → StepOutcome
 end_session setup guest input cause desk = end_of_open setup guest input cause (session_of guest desk).ended desk
 
--- a session ends that is left with a part of a unit, where no part may be kept
-abbrev pub cut_short : Setup → ℕ → DeskState → StepOutcome
-cut_short setup guest desk =
-    if keeps_rest || is_nil (session_of guest desk).rest then stays desk
-    else end_session setup guest Closing (StreamEnded 0 0) desk
-
 -- the bytes of a piece
 abbrev pub take_bytes : Setup → ℕ → List ℕ → DeskState → StepOutcome
-take_bytes setup guest piece desk =
-    and_next (bytes_of_open setup guest piece (session_of guest desk).ended desk) (cut_short setup guest)
+take_bytes setup guest piece desk = bytes_of_open setup guest piece (session_of guest desk).ended desk
 
 -- a change of a guest's frames, unless its session has ended
 abbrev pub store_of_open : ℕ → ℕ → ℕ → ℕ → List ℕ → Option Cause → DeskState → StepOutcome

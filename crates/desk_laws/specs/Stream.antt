@@ -7,7 +7,7 @@ use Rattle.gui_wire.specs.AgentMessages.{rule_of, fits_rule}
 use Rattle.gui_wire.specs.Headers.{header_at}
 use Rattle.gui_wire.specs.Words.{word_at}
 use Rattle.desk_laws.specs.declared.cause.Cause.{Cause}
-use Rattle.desk_laws.specs.Stage.{takes_type, told_cause}
+use Rattle.desk_laws.specs.Stage.{takes_type}
 use Rattle.desk_laws.specs.declared.cause.Cause.TheVariants.{BadType, BadLength, ClipTooLong}
 
 -- what one step takes off a guest's bytes
@@ -22,28 +22,17 @@ pub data Front : Type 0 where
   Fault : Cause → Front
   Takes : StreamUnit → List ℕ → Front
 
--- the fault of a header alone, by the rule of its type
+-- the fault of a header alone, by the rule of its type: the type is unknown, the length breaks the rule,
+-- or it announces clipboard data that is too long even to be skipped
 abbrev pub fault_by : LengthRule → Header → Option Cause
 fault_by Unknown header = Some (BadType header.kind 0)
-fault_by (Exactly n) header = if fits_rule (Exactly n) header.len then None else Some (told_cause header.kind (BadLength header.len 0))
+fault_by (Exactly n) header = if fits_rule (Exactly n) header.len then None else Some (BadLength header.len 0)
 fault_by Clip header = if nat_lt 256000 header.len then Some (ClipTooLong header.len 0) else None
-fault_by Dump header = if fits_rule Dump header.len then None else Some (told_cause header.kind (BadLength header.len 0))
+fault_by Dump header = if fits_rule Dump header.len then None else Some (BadLength header.len 0)
 
--- the fault of a header alone: its type isn't taken, its length breaks the rule of its type, or it
--- announces clipboard data that is too long even to be skipped
+-- the fault of a header alone: its type isn't taken, or it has the fault of its type's rule
 abbrev pub head_fault : Header → Option Cause
 head_fault header = if takes_type header.kind then fault_by (rule_of header.kind) header else Some (BadType header.kind 0)
-
--- the fault of a header alone, once all messages are taken: its type is unknown, its length breaks the
--- rule of its type, or it announces clipboard data that is too long even to be skipped
-abbrev pub header_fault : Header → Option Cause
-header_fault header = by_rule (rule_of header.kind)
-  where
-    by_rule : LengthRule → Option Cause
-    by_rule Unknown = Some (BadType header.kind 0)
-    by_rule (Exactly n) = if fits_rule (Exactly n) header.len then None else Some (BadLength header.len 0)
-    by_rule Clip = if nat_lt 256000 header.len then Some (ClipTooLong header.len 0) else None
-    by_rule Dump = if fits_rule Dump header.len then None else Some (BadLength header.len 0)
 
 -- the unit of a header and the bytes behind it
 abbrev pub front_of : Option Cause → Header → List ℕ → Front

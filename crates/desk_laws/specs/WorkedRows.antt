@@ -86,7 +86,7 @@ abbrev pub WindowOffTheCorner : Type 0
 WindowOffTheCorner = posts (bytes (window_at (2 ^ 32 - 1) (2 ^ 32 - 1)) ∷ just item.Snap ∷ [])
     ≡ greeting ++ Picture 8 6 ((blank ∷ label ∷ replicate 6 0) ++ (label ∷ label ∷ replicate 6 0) ++ replicate 32 0) ∷ []
 
--- a window created twice: the second CREATE ends the session, by the type of its message
+-- a window created twice: the second CREATE ends the session
 abbrev pub WindowCreatedTwice : Type 0
 WindowCreatedTwice = posts (bytes (window_at 2 2 ++ spelling 1 (agent.Create 2 2 2 2 0 0)) ∷ just item.Snap ∷ [])
-    ≡ greeting ++ Ended 0 (cause.BadType 130 0) ∷ Picture 8 6 (replicate 48 0) ∷ []
+    ≡ greeting ++ Ended 0 (cause.WindowExists 1 0) ∷ Picture 8 6 (replicate 48 0) ∷ []

@@ -14,7 +14,7 @@ use Rattle.gui_wire.specs.Headers.{header_at}
 use Rattle.desk_laws.specs.declared.cause.Cause.{Cause}
 use Rattle.desk_laws.specs.declared.cause.Cause.TheVariants.{BadType, BadLength, ClipTooLong}
 use Rattle.desk_laws.specs.Stream as stream
-use Rattle.desk_laws.specs.Stream.{StreamUnit, Front, Wait, Fault, Takes, front_by, front_of, header_fault}
+use Rattle.desk_laws.specs.Stream.{StreamUnit, Front, Wait, Fault, Takes, front_by, front_of, head_fault}
 use Rattle.desk_laws.proofs.Cutting.{front_by-whole_header, takes-whole_header}
 use Rattle.in_stream.specs.Received.{Received, StandsFor}
 use Rattle.in_stream.specs.Shown.{Shown, Whole, Bad, ClipLong, Skipped, Skipping, Need, is_passed_over, waiting, lacking, faulty, complete, shown_of, shown, word_of, word_shown}
@@ -90,27 +90,27 @@ message_by None h xs (stream.Word w) behind e = grind (arith, nat_tests)
 message_by None h xs (stream.Stop c) behind e = grind (arith, nat_tests)
 message_by None h xs (stream.Whole g b) behind e = tt
 
-takes-message : (r : List ℕ) (u : StreamUnit) (behind : List ℕ) → front_by header_fault true r ≡ Takes u behind → IsMessage u
+takes-message : (r : List ℕ) (u : StreamUnit) (behind : List ℕ) → front_by head_fault true r ≡ Takes u behind → IsMessage u
 takes-message r u behind e =
-    message_by (header_fault (header_at r)) (header_at r) (drop 12 r) u behind (sym (front_by-whole_header header_fault r (takes-whole_header header_fault r u behind e)) ∙ e)
+    message_by (head_fault (header_at r)) (header_at r) (drop 12 r) u behind (sym (front_by-whole_header head_fault r (takes-whole_header head_fault r u behind e)) ∙ e)
 
 -- ---- no unit is whole
 
-waits_by : (a : Front) (r : List ℕ) → front_by header_fault true r ≡ a → IsWaiting (shown_of r a) → a ≡ Wait
+waits_by : (a : Front) (r : List ℕ) → front_by head_fault true r ≡ a → IsWaiting (shown_of r a) → a ≡ Wait
 waits_by Wait r f w = refl
 waits_by (Fault c) r f w = absurd (waiting_not_faulty (faulty (header_at r) c) w (faulty-is (header_at r) c))
 waits_by (Takes (stream.Word w) behind) r f x = absurd (takes-message r (stream.Word w) behind f)
 waits_by (Takes (stream.Stop c) behind) r f x = absurd (takes-message r (stream.Stop c) behind f)
 waits_by (Takes (stream.Whole h b) behind) r f x = absurd (waiting_not_complete (complete (stream.Whole h b)) x (complete-is h b))
 
-shown-waits : (r : List ℕ) → IsWaiting (shown r) → front_by header_fault true r ≡ Wait
-shown-waits r w = waits_by (front_by header_fault true r) r refl w
+shown-waits : (r : List ℕ) → IsWaiting (shown r) → front_by head_fault true r ≡ Wait
+shown-waits r w = waits_by (front_by head_fault true r) r refl w
 
 -- where bytes are needed, the cut has no unit
-pub shown-need : (r : List ℕ) (more : ℕ) → shown r ≡ Need more → front_by header_fault true r ≡ Wait
+pub shown-need : (r : List ℕ) (more : ℕ) → shown r ≡ Need more → front_by head_fault true r ≡ Wait
 shown-need r more e = shown-waits r (subst IsWaiting (sym e) tt)
 
-pub shown-skipping : (r : List ℕ) (left : ℕ) → shown r ≡ Skipping left → front_by header_fault true r ≡ Wait
+pub shown-skipping : (r : List ℕ) (left : ℕ) → shown r ≡ Skipping left → front_by head_fault true r ≡ Wait
 shown-skipping r left e = shown-waits r (subst IsWaiting (sym e) tt)
 
 -- ---- a unit is whole
@@ -119,7 +119,7 @@ shown-skipping r left e = shown-waits r (subst IsWaiting (sym e) tt)
 pub record ShowsMessage (r : List ℕ) (h : Header) (x : Shown) : Type 0 where
   pub body : List ℕ
   pub behind : List ℕ
-  pub takes : front_by header_fault true r ≡ Takes (stream.Whole h body) behind
+  pub takes : front_by head_fault true r ≡ Takes (stream.Whole h body) behind
   pub as_shown : complete (stream.Whole h body) ≡ x
 
 abbrev header_shown : Shown → Option Header
@@ -131,7 +131,7 @@ header_shown-complete : (over : Bool) (h : Header) (b : List ℕ) → header_sho
 header_shown-complete true h b = refl
 header_shown-complete false h b = refl
 
-message_shown : (a : Front) (r : List ℕ) (h : Header) (x : Shown) → front_by header_fault true r ≡ a → shown_of r a ≡ x → header_shown x ≡ Some h → IsComplete x → ShowsMessage r h x
+message_shown : (a : Front) (r : List ℕ) (h : Header) (x : Shown) → front_by head_fault true r ≡ a → shown_of r a ≡ x → header_shown x ≡ Some h → IsComplete x → ShowsMessage r h x
 message_shown Wait r h x f e k is = absurd (waiting_not_complete (waiting r) (waiting-is r) (subst IsComplete (sym e) is))
 message_shown (Fault c) r h x f e k is = absurd (faulty_not_complete (faulty (header_at r) c) (faulty-is (header_at r) c) (subst IsComplete (sym e) is))
 message_shown (Takes (stream.Word w) behind) r h x f e k is = absurd (takes-message r (stream.Word w) behind f)
@@ -150,15 +150,15 @@ skipped_over true h b e = refl
 skipped_over false h b e = cc
 
 -- a whole message is shown where the cut begins with it
-pub shown-whole : (r : List ℕ) (h : Header) (b : List ℕ) → shown r ≡ Whole h b → (behind : List ℕ) × (front_by header_fault true r ≡ Takes (stream.Whole h b) behind)
+pub shown-whole : (r : List ℕ) (h : Header) (b : List ℕ) → shown r ≡ Whole h b → (behind : List ℕ) × (front_by head_fault true r ≡ Takes (stream.Whole h b) behind)
 shown-whole r h b e =
-    let m = message_shown (front_by header_fault true r) r h (Whole h b) refl e refl tt in
+    let m = message_shown (front_by head_fault true r) r h (Whole h b) refl e refl tt in
     (m.behind, m.takes ∙ ap (λ y. Takes (stream.Whole h y) m.behind) (whole_body (is_passed_over h) h m.body b m.as_shown))
 
 -- clipboard data whose body was skipped is shown where the cut begins with its message
 pub shown-skipped : (r : List ℕ) (h : Header) → shown r ≡ Skipped h → ShowsMessage r h (Skipped h) × (is_passed_over h ≡ true)
 shown-skipped r h e =
-    let m = message_shown (front_by header_fault true r) r h (Skipped h) refl e refl tt in
+    let m = message_shown (front_by head_fault true r) r h (Skipped h) refl e refl tt in
     (m, skipped_over (is_passed_over h) h m.body m.as_shown)
 
 -- the buffer may let go what it shows
@@ -180,8 +180,8 @@ word_takes (Takes (stream.Stop c) behind) w e = absurd cc
 word_takes (Takes (stream.Whole h b) behind) w e = absurd cc
 
 -- the version word is shown where the cut begins with it
-pub shown-word : (r : List ℕ) (w : ℕ) → word_shown r ≡ Some w → (behind : List ℕ) × (front_by header_fault false r ≡ Takes (stream.Word w) behind)
-shown-word r w e = word_takes (front_by header_fault false r) w e
+pub shown-word : (r : List ℕ) (w : ℕ) → word_shown r ≡ Some w → (behind : List ℕ) × (front_by head_fault false r ≡ Takes (stream.Word w) behind)
+shown-word r w e = word_takes (front_by head_fault false r) w e
 
 pub has_unit-word : (s : Received) (r : List ℕ) (w : ℕ) → s.greeted ≡ false → StandsFor s r → word_shown r ≡ Some w → HasUnit s
 has_unit-word s r w g stands e =
@@ -207,7 +207,7 @@ clip_cause : (over : Bool) (h : Header) → IsCauseOf h (if over then Some (Clip
 clip_cause true h = inr (inr refl)
 clip_cause false h = tt
 
-cause_by : (x : LengthRule) (h : Header) → rule_of h.kind ≡ x → IsCauseOf h (header_fault h)
+cause_by : (x : LengthRule) (h : Header) → rule_of h.kind ≡ x → IsCauseOf h (head_fault h)
 cause_by Unknown h e = rw e (inl refl)
 cause_by (Exactly n) h e = rw e (length_cause (fits_rule (Exactly n) h.len) h)
 cause_by Clip h e = rw e (clip_cause (nat_lt 256000 h.len) h)
@@ -217,14 +217,14 @@ fault_by : (c : Option Cause) (h : Header) (xs : List ℕ) (d : Cause) → front
 fault_by (Some c) h xs d e = cc
 fault_by None h xs d e = grind (arith, nat_tests)
 
-fault-long : (r : List ℕ) (d : Cause) → front_by header_fault true r ≡ Fault d → 12 ≤ length r
+fault-long : (r : List ℕ) (d : Cause) → front_by head_fault true r ≡ Fault d → 12 ≤ length r
 fault-long r d e = grind (arith, nat_tests)
 
 -- the fault of the cut is that of the header
-fault-is : (r : List ℕ) (d : Cause) → front_by header_fault true r ≡ Fault d → IsCauseOf (header_at r) (Some d)
+fault-is : (r : List ℕ) (d : Cause) → front_by head_fault true r ≡ Fault d → IsCauseOf (header_at r) (Some d)
 fault-is r d e =
-    let f : header_fault (header_at r) ≡ Some d =
-    fault_by (header_fault (header_at r)) (header_at r) (drop 12 r) d (sym (front_by-whole_header header_fault r (fault-long r d e)) ∙ e) in
+    let f : head_fault (header_at r) ≡ Some d =
+    fault_by (head_fault (header_at r)) (header_at r) (drop 12 r) d (sym (front_by-whole_header head_fault r (fault-long r d e)) ∙ e) in
     subst (IsCauseOf (header_at r)) f (cause_by (rule_of (header_at r).kind) (header_at r) refl)
 
 -- what is shown for a cause: the fault that tells it, or that the clipboard data is too long
@@ -238,7 +238,7 @@ told_by h c (inl e) = rw e refl
 told_by h c (inr (inl e)) = rw e refl
 told_by h c (inr (inr e)) = rw e refl
 
-bad_shown : (a : Front) (r : List ℕ) (x : Shown) → front_by header_fault true r ≡ a → shown_of r a ≡ x → IsFaulty x → (c : Cause) × (a ≡ Fault c) × IsToldFor (header_at r) c x
+bad_shown : (a : Front) (r : List ℕ) (x : Shown) → front_by head_fault true r ≡ a → shown_of r a ≡ x → IsFaulty x → (c : Cause) × (a ≡ Fault c) × IsToldFor (header_at r) c x
 bad_shown Wait r x f e is = absurd (waiting_not_faulty (waiting r) (waiting-is r) (subst IsFaulty (sym e) is))
 bad_shown (Fault c) r x f e is = (c, refl, subst (IsToldFor (header_at r) c) e (told_by (header_at r) c (fault-is r c f)))
 bad_shown (Takes (stream.Word w) behind) r x f e is = absurd (takes-message r (stream.Word w) behind f)
@@ -246,9 +246,9 @@ bad_shown (Takes (stream.Stop c) behind) r x f e is = absurd (takes-message r (s
 bad_shown (Takes (stream.Whole h b) behind) r x f e is = absurd (faulty_not_complete (complete (stream.Whole h b)) (subst IsFaulty (sym e) is) (complete-is h b))
 
 -- a bad header is shown where the cut begins with its fault
-pub shown-fault : (r : List ℕ) (h : Header) (f : WireFault) → shown r ≡ Bad h f → front_by header_fault true r ≡ Fault (cause_of f)
-shown-fault r h f e = let b = bad_shown (front_by header_fault true r) r (Bad h f) refl e tt in b.1 ∙ ap Fault b.2
+pub shown-fault : (r : List ℕ) (h : Header) (f : WireFault) → shown r ≡ Bad h f → front_by head_fault true r ≡ Fault (cause_of f)
+shown-fault r h f e = let b = bad_shown (front_by head_fault true r) r (Bad h f) refl e tt in b.1 ∙ ap Fault b.2
 
 -- clipboard data that is too long is shown where the cut begins with that fault
-pub shown-clip_fault : (r : List ℕ) (h : Header) → shown r ≡ ClipLong h → front_by header_fault true r ≡ Fault (ClipTooLong h.len 0)
-shown-clip_fault r h e = let b = bad_shown (front_by header_fault true r) r (ClipLong h) refl e tt in b.1 ∙ ap Fault b.2
+pub shown-clip_fault : (r : List ℕ) (h : Header) → shown r ≡ ClipLong h → front_by head_fault true r ≡ Fault (ClipTooLong h.len 0)
+shown-clip_fault r h e = let b = bad_shown (front_by head_fault true r) r (ClipLong h) refl e tt in b.1 ∙ ap Fault b.2

@@ -13,7 +13,7 @@ use Rattle.gui_wire.specs.Headers.{header_at, head_result, result_by}
 use Rattle.desk_laws.specs.declared.cause.Cause.{Cause}
 use Rattle.desk_laws.specs.declared.cause.Cause.TheVariants.{BadType, BadLength, ClipTooLong}
 use Rattle.desk_laws.specs.Stream as stream
-use Rattle.desk_laws.specs.Stream.{StreamUnit, Front, Wait, Fault, Takes, front_by, front_of, header_fault}
+use Rattle.desk_laws.specs.Stream.{StreamUnit, Front, Wait, Fault, Takes, front_by, front_of, head_fault}
 use Rattle.desk_laws.proofs.Cutting.{front_by-whole_header}
 use Rattle.in_stream.proofs.StandsLemmas.{empty, stands-length, stands-header, stands-short}
 use Rattle.in_stream.proofs.TakingLemmas.{passes-short, passes-long, lt_or_le}
@@ -60,7 +60,7 @@ length_bad : (fits : Bool) (h : Header) (f : WireFault) → checked fits h ≡ E
 length_bad true h f bad = cc
 length_bad false h f bad = cc
 
-tells_bad_by : (x : LengthRule) (h : Header) (f : WireFault) → rule_of h.kind ≡ x → head_result h ≡ Err f → TellsBad h f (header_fault h)
+tells_bad_by : (x : LengthRule) (h : Header) (f : WireFault) → rule_of h.kind ≡ x → head_result h ≡ Err f → TellsBad h f (head_fault h)
 tells_bad_by Unknown h f e bad = rw e (let b = rw e at bad in cc)
 tells_bad_by (Exactly n) h f e bad = rw e (length_bad (fits_rule (Exactly n) h.len) h f (rw e at bad))
 tells_bad_by Clip h f e bad = let b = rw e at bad in absurd cc
@@ -70,23 +70,23 @@ length_good : (fits : Bool) (h : Header) → checked fits h ≡ Ok tt → (if fi
 length_good true h good = refl
 length_good false h good = cc
 
-faultless_by : (x : LengthRule) (h : Header) → rule_of h.kind ≡ x → Typed h.kind x → head_result h ≡ Ok tt → (h.kind ≡ 140 → h.len ≤ 256000) → header_fault h ≡ None
+faultless_by : (x : LengthRule) (h : Header) → rule_of h.kind ≡ x → Typed h.kind x → head_result h ≡ Ok tt → (h.kind ≡ 140 → h.len ≤ 256000) → head_fault h ≡ None
 faultless_by Unknown h e t good short = let b = rw e at good in cc
 faultless_by (Exactly n) h e t good short = rw e (length_good (fits_rule (Exactly n) h.len) h (rw e at good))
 faultless_by Clip h e t good short = rw e (let le : h.len ≤ 256000 = short t in grind (arith, nat_tests))
 faultless_by Dump h e t good short = rw e (length_good (fits_rule Dump h.len) h (rw e at good))
 
-pub faultless : (h : Header) → head_result h ≡ Ok tt → (h.kind ≡ 140 → h.len ≤ 256000) → header_fault h ≡ None
+pub faultless : (h : Header) → head_result h ≡ Ok tt → (h.kind ≡ 140 → h.len ≤ 256000) → head_fault h ≡ None
 faultless h good short = faultless_by (rule_of h.kind) h refl (typed h.kind) good short
 
-clip_fault : (h : Header) → h.kind ≡ 140 → 256000 < h.len → header_fault h ≡ Some (ClipTooLong h.len 0)
+clip_fault : (h : Header) → h.kind ≡ 140 → 256000 < h.len → head_fault h ≡ Some (ClipTooLong h.len 0)
 clip_fault h e long = let c : rule_of h.kind ≡ Clip = ap rule_of e in rw c (grind (arith, nat_tests))
 
 -- ---- what is shown
 
 -- with a header, what is shown is by that header and what is behind it
-shown-header : (r : List ℕ) → 12 ≤ length r → shown r ≡ shown_of r (front_of (header_fault (header_at r)) (header_at r) (drop 12 r))
-shown-header r long = ap (shown_of r) (front_by-whole_header header_fault r long)
+shown-header : (r : List ℕ) → 12 ≤ length r → shown r ≡ shown_of r (front_of (head_fault (header_at r)) (header_at r) (drop 12 r))
+shown-header r long = ap (shown_of r) (front_by-whole_header head_fault r long)
 
 pub shown-short : (r : List ℕ) → length r < 12 → shown r ≡ Need (12 - length r)
 shown-short r short = grind (arith, nat_tests)
@@ -97,14 +97,14 @@ bad_by (Some c) r xs f t = t
 
 pub shown-bad : (r : List ℕ) (f : WireFault) → 12 ≤ length r → head_result (header_at r) ≡ Err f → shown r ≡ Bad (header_at r) f
 shown-bad r f long bad =
-    shown-header r long ∙ bad_by (header_fault (header_at r)) r (drop 12 r) f (tells_bad_by (rule_of (header_at r).kind) (header_at r) f refl bad)
+    shown-header r long ∙ bad_by (head_fault (header_at r)) r (drop 12 r) f (tells_bad_by (rule_of (header_at r).kind) (header_at r) f refl bad)
 
 pub shown-clip_long : (r : List ℕ) → 12 ≤ length r → (header_at r).kind ≡ 140 → 256000 < (header_at r).len → shown r ≡ ClipLong (header_at r)
 shown-clip_long r long e over =
     shown-header r long ∙ ap (λ c. shown_of r (front_of c (header_at r) (drop 12 r))) (clip_fault (header_at r) e over)
 
 -- the message of a header without a fault
-shown-message : (r : List ℕ) → 12 ≤ length r → header_fault (header_at r) ≡ None → shown r ≡ shown_of r (front_of None (header_at r) (drop 12 r))
+shown-message : (r : List ℕ) → 12 ≤ length r → head_fault (header_at r) ≡ None → shown r ≡ shown_of r (front_of None (header_at r) (drop 12 r))
 shown-message r long none = shown-header r long ∙ ap (λ c. shown_of r (front_of c (header_at r) (drop 12 r))) none
 
 lacks_by : (h : Header) (r xs : List ℕ) → length xs < h.len → shown_of r (front_of None h xs) ≡ waiting r
@@ -122,23 +122,23 @@ lacking-message : (r : List ℕ) → 12 ≤ length r → lacking r ≡ 12 + (hea
 lacking-message r long = grind (arith, nat_tests)
 
 -- a message that isn't whole: of its body, these bytes were passed over, and these are there
-pub message_lacks : (r p b : List ℕ) (h : Header) (n : ℕ) → 12 ≤ length r → header_at r ≡ h → header_fault h ≡ None → length p ≡ n → drop 12 r ≡ p ++ b → n + length b < h.len
+pub message_lacks : (r p b : List ℕ) (h : Header) (n : ℕ) → 12 ≤ length r → header_at r ≡ h → head_fault h ≡ None → length p ≡ n → drop 12 r ≡ p ++ b → n + length b < h.len
     → shown r ≡ (if is_passed_over h then Skipping (h.len - (n + length b)) else Need (h.len - (n + length b)))
 message_lacks r p b h n long e none len behind lt =
     let l : length (drop 12 r) ≡ n + length b = ap length behind ∙ omega (arith, length-append p b, len) in
     let k : (header_at r).len ≡ h.len = ap (λ x. x.len) e in
     let m : lacking r ≡ h.len - (n + length b) = lacking-message r long ∙ omega (arith, l, k, length-drop 12 r) in
-    shown-message r long (ap header_fault e ∙ none) ∙ lacks_by (header_at r) r (drop 12 r) (omega (arith, l, k))
+    shown-message r long (ap head_fault e ∙ none) ∙ lacks_by (header_at r) r (drop 12 r) (omega (arith, l, k))
     ∙ waiting_by (is_passed_over (header_at r)) r (h.len - (n + length b)) long m
     ∙ ap (λ x. if is_passed_over x then Skipping (h.len - (n + length b)) else Need (h.len - (n + length b))) e
 
 -- a whole message
-pub message_whole : (r p b : List ℕ) (h : Header) (n : ℕ) → 12 ≤ length r → header_at r ≡ h → header_fault h ≡ None → length p ≡ n → drop 12 r ≡ p ++ b → h.len ≤ n + length b
+pub message_whole : (r p b : List ℕ) (h : Header) (n : ℕ) → 12 ≤ length r → header_at r ≡ h → head_fault h ≡ None → length p ≡ n → drop 12 r ≡ p ++ b → h.len ≤ n + length b
     → (is_passed_over h ≡ false → n ≡ 0) → shown r ≡ (if is_passed_over h then Skipped h else Whole h (take h.len b))
 message_whole r p b h n long e none len behind le kept =
     let l : length (drop 12 r) ≡ n + length b = ap length behind ∙ omega (arith, length-append p b, len) in
     let k : (header_at r).len ≡ h.len = ap (λ x. x.len) e in
-    shown-message r long (ap header_fault e ∙ none) ∙ whole_by (header_at r) r (drop 12 r) (omega (arith, l, k))
+    shown-message r long (ap head_fault e ∙ none) ∙ whole_by (header_at r) r (drop 12 r) (omega (arith, l, k))
     ∙ ap (λ x. complete (stream.Whole x (take x.len (drop 12 r)))) e
     ∙ whole_kept (is_passed_over h) h (take h.len (drop 12 r)) (take h.len b) (λ no. ap (take h.len) (behind ∙ ap (λ x. x ++ b) (empty p (len ∙ kept no))))
   where
@@ -168,13 +168,13 @@ front-clip_long s r h long clip over =
 -- ---- room
 
 -- a body of which nothing is passed over is short
-short_by : (x : LengthRule) (h : Header) → rule_of h.kind ≡ x → Typed h.kind x → header_fault h ≡ None → is_passed_over h ≡ false → h.len ≤ 393232
+short_by : (x : LengthRule) (h : Header) → rule_of h.kind ≡ x → Typed h.kind x → head_fault h ≡ None → is_passed_over h ≡ false → h.len ≤ 393232
 short_by Unknown h e t none over = let b = rw e at none in cc
 short_by (Exactly n) h e t none over = let b = rw e at none in grind (arith, nat_tests)
 short_by Clip h e t none over = let b = rw e at none in grind (arith, nat_tests)
 short_by Dump h e t none over = let b = rw e at none in grind (arith, nat_tests)
 
-short_body : (h : Header) → header_fault h ≡ None → is_passed_over h ≡ false → h.len ≤ 393232
+short_body : (h : Header) → head_fault h ≡ None → is_passed_over h ≡ false → h.len ≤ 393232
 short_body h none over = short_by (rule_of h.kind) h refl (typed h.kind) none over
 
 waits-faultless : (c : Option Cause) (h : Header) (xs : List ℕ) → front_of c h xs ≡ Wait → (c ≡ None) × (length xs < h.len)
@@ -187,12 +187,12 @@ room-passed true r len long lt short = omega arith
 room-passed false r len long lt short = let le : len ≤ 393232 = short refl in omega arith
 
 -- there is room where no unit is whole
-pub room-waits : (greeted : Bool) (r : List ℕ) → front_by header_fault greeted r ≡ Wait → 0 < room greeted r
+pub room-waits : (greeted : Bool) (r : List ℕ) → front_by head_fault greeted r ≡ Wait → 0 < room greeted r
 room-waits false r e = grind (arith, nat_tests)
 room-waits true r e = elim (lt_or_le (length r) 12) [
   | inl short ↦ let p = passes-short true r short in rw p (omega arith)
   | inr long ↦
-      let w = waits-faultless (header_fault (header_at r)) (header_at r) (drop 12 r) (sym (front_by-whole_header header_fault r long) ∙ e) in
+      let w = waits-faultless (head_fault (header_at r)) (header_at r) (drop 12 r) (sym (front_by-whole_header head_fault r long) ∙ e) in
       let p : passes true r ≡ is_passed_over (header_at r) = passes-long r long in
       rw p (room-passed (is_passed_over (header_at r)) r (header_at r).len long (omega (arith, w.1, length-drop 12 r)) (short_body (header_at r) w.0))
 ]

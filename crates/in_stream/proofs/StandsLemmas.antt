@@ -5,7 +5,7 @@ use Rattle.std.proofs.lemmas.Bool.Decides.{nat_tests}
 use Rattle.std.proofs.lemmas.Grind.{common_steps}
 use Rattle.std.proofs.lemmas.List.{drop-append-le, take-append-le, take-append-drop, drop-drop}
 use Rattle.gui_wire.specs.Headers.{header_at}
-use Rattle.desk_laws.specs.Stream.{StreamUnit, Front, Wait, Fault, Takes, front_by, front_of, header_fault}
+use Rattle.desk_laws.specs.Stream.{StreamUnit, Front, Wait, Fault, Takes, front_by, front_of, head_fault}
 use Rattle.desk_laws.proofs.Cutting.{Faults, header_at-append, front_by-whole_header, takes-whole_header}
 use Rattle.in_stream.specs.Received.{Received, StandsFor, longest}
 use Rattle.in_stream.specs.Shown.{is_passed_over}
@@ -94,7 +94,7 @@ nothing_skipped s sound e = elim (none_or_more s.skipped) [ inl none ↦ none | 
 pub drops_word : (s : Received) → IsSound s → s.greeted ≡ false → DropsUnit s (record { greeted = true; held = drop 4 s.held; skipped = s.skipped })
 drops_word s sound first r u b h e =
     let none : s.skipped ≡ 0 = nothing_skipped s sound first in
-    let w = word-behind header_fault r u b (rw first at e) in
+    let w = word-behind head_fault r u b (rw first at e) in
     holds-stands (record { greeted = true; held = drop 4 s.held; skipped = s.skipped }) b none (w.1 ∙ ap (drop 4) (stands-holds s r none h))
 
 front_of-behind : (f : Option _) (h : _) (s : List ℕ) (u : StreamUnit) (r : List ℕ) → front_of f h s ≡ Takes u r → (h.len ≤ length s) × (r ≡ drop h.len s)
@@ -119,7 +119,7 @@ bounded s sound long = elim (none_or_more s.skipped) [ inl none ↦ omega arith 
 -- a whole message is held from its header to its end, but for what was passed over
 pub holds_message : (s : Received) → IsSound s → s.greeted ≡ true → HasUnit s → (12 ≤ length s.held) × (12 + ((header_at s.held).len - s.skipped) ≤ length s.held)
 holds_message s sound greeted unit =
-    let m = message-behind header_fault unit.rest unit.unit unit.behind (rw greeted at unit.takes) in
+    let m = message-behind head_fault unit.rest unit.unit unit.behind (rw greeted at unit.takes) in
     let long : 12 ≤ length s.held = stands-long s unit.rest sound unit.stands m.0 in
     let e : (header_at unit.rest).len ≡ (header_at s.held).len = ap (λ x. x.len) (stands-header s unit.rest long unit.stands) in
     let b = bounded s sound long in
@@ -127,7 +127,7 @@ holds_message s sound greeted unit =
 
 pub drops_message : (s : Received) (g : Bool) → IsSound s → s.greeted ≡ true → DropsUnit s (record { greeted = g; held = drop (12 + ((header_at s.held).len - s.skipped)) s.held; skipped = 0 })
 drops_message s g sound greeted r u b h e =
-    let m = message-behind header_fault r u b (rw greeted at e) in
+    let m = message-behind head_fault r u b (rw greeted at e) in
     let long : 12 ≤ length s.held = stands-long s r sound h m.0 in
     let le : length h.passed ≤ (header_at s.held).len = omega (arith, h.as_many, bounded s sound long) in
     holds-stands (record { greeted = g; held = drop (12 + ((header_at s.held).len - s.skipped)) s.held; skipped = 0 }) b refl

@@ -6,7 +6,7 @@ use Rattle.std.proofs.lemmas.Bool.Decides.{nat_tests}
 use Rattle.std.proofs.lemmas.Grind.{common_steps}
 use Rattle.std.proofs.lemmas.List.{append-nil, take-append-drop, drop-drop, take_all, drop_all, take_at, drop_at}
 use Rattle.gui_wire.specs.Headers.{header_at}
-use Rattle.desk_laws.specs.Stream.{StreamUnit, Front, Wait, front_by, header_fault}
+use Rattle.desk_laws.specs.Stream.{StreamUnit, Front, Wait, front_by, head_fault}
 use Rattle.desk_laws.proofs.Cutting.{header_at-append}
 use Rattle.in_stream.specs.Received.{Received, StandsFor, longest}
 use Rattle.in_stream.specs.Shown.{is_passed_over}

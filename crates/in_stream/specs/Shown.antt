@@ -7,7 +7,7 @@ use Rattle.gui_wire.specs.Headers.{header_at}
 use Rattle.desk_laws.specs.declared.cause.Cause.{Cause}
 use Rattle.desk_laws.specs.declared.cause.Cause.TheVariants.{BadType, BadLength, ClipTooLong}
 use Rattle.desk_laws.specs.Stream as stream
-use Rattle.desk_laws.specs.Stream.{StreamUnit, Front, Wait, Fault, Takes, front_by, header_fault}
+use Rattle.desk_laws.specs.Stream.{StreamUnit, Front, Wait, Fault, Takes, front_by, head_fault}
 
 -- what the bytes after the version word begin with
 pub data Shown : Type 0 where
@@ -51,7 +51,7 @@ shown_of rest (Takes unit behind) = complete unit
 
 -- what bytes after the version word begin with
 abbrev pub shown : List ℕ → Shown
-shown rest = shown_of rest (front_by header_fault true rest)
+shown rest = shown_of rest (front_by head_fault true rest)
 
 abbrev pub word_of : Front → Option ℕ
 word_of (Takes (stream.Word word) behind) = Some word
@@ -59,4 +59,4 @@ word_of front = None
 
 -- the version word that bytes begin with, if they have its four bytes
 abbrev pub word_shown : List ℕ → Option ℕ
-word_shown rest = word_of (front_by header_fault false rest)
+word_shown rest = word_of (front_by head_fault false rest)

@@ -1,7 +1,7 @@
 -- How a receive buffer takes bytes and lets units go.
 use Rattle.std.specs.Prelude.{◌≡◌, ℕ, ◌+◌, ◌-◌, Bool, true, false, ◌&&◌, nat_le, List, length, if◌then◌else◌}
 use Rattle.gui_wire.specs.Headers.{header_at}
-use Rattle.desk_laws.specs.Stream.{StreamUnit, Takes, front_by, header_fault}
+use Rattle.desk_laws.specs.Stream.{StreamUnit, Takes, front_by, head_fault}
 use Rattle.in_stream.specs.Received.{Received, StandsFor, longest}
 use Rattle.in_stream.specs.Shown.{is_passed_over}
 
@@ -28,10 +28,10 @@ pub record HasUnit (stream : Received) : Type 0 where
   pub unit : StreamUnit
   pub behind : List ℕ
   pub stands : StandsFor stream rest
-  pub takes : front_by header_fault stream.greeted rest ≡ Takes unit behind
+  pub takes : front_by head_fault stream.greeted rest ≡ Takes unit behind
 
 -- the unit at the front is let go: afterwards the buffer stands for what is behind it
 abbrev pub DropsUnit : Received → Received → Type 0
 DropsUnit old new =
     (rest : List ℕ) (unit : StreamUnit) (behind : List ℕ) → StandsFor old rest
-    → front_by header_fault old.greeted rest ≡ Takes unit behind → StandsFor new behind
+    → front_by head_fault old.greeted rest ≡ Takes unit behind → StandsFor new behind

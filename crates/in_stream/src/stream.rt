@@ -1,7 +1,7 @@
 // The receive buffer of one guest.
 ghost use Rattle.std.specs.Prelude.{◌≡◌, ℕ, ◌+◌, ◌-◌, ◌<◌, ◌≤◌, ◌^◌, None, Bool, true, false, List, [], ◌++◌, length, min, take, drop, IfOk};
 ghost use Rattle.gui_wire.specs.Headers.{header_at};
-ghost use Rattle.desk_laws.specs.Stream.{Wait, front_by, header_fault};
+ghost use Rattle.desk_laws.specs.Stream.{Wait, front_by, head_fault};
 ghost use Rattle.in_stream.specs.Received.{StandsFor};
 ghost use Rattle.in_stream.specs.Shown.{is_passed_over, shown, word_shown};
 ghost use Rattle.in_stream.specs.Seen.{seen};
@@ -68,7 +68,7 @@ impl InStream {
         ensures within { result ≤ length piece.now }
         ensures stands { (rest : List ℕ) → StandsFor self.old rest → StandsFor self.new (rest ++ take result piece.now) }
         ensures count { (rest : List ℕ) → StandsFor self.old rest → result ≡ min (length piece.now) (room self.old.greeted rest) }
-        ensures some { (rest : List ℕ) → StandsFor self.old rest → front_by header_fault self.old.greeted rest ≡ Wait → 0 < length piece.now → 0 < result }
+        ensures some { (rest : List ℕ) → StandsFor self.old rest → front_by head_fault self.old.greeted rest ≡ Wait → 0 < length piece.now → 0 < result }
         ensures greeted { self.new.greeted ≡ self.old.greeted }
     {
         let skipped = self.skip(piece.len());
@@ -172,7 +172,7 @@ fn is_passed_over(header: Header) -> bool
 fn message_at(header: Header, behind: &[u8], skipped: usize) -> Front<'_>
     requires fits { skipped + length behind.now < 2 ^ 64 }
     requires kept { is_passed_over header ≡ false → skipped ≡ 0 }
-    ensures { (rest passed : List ℕ) → 12 ≤ length rest → header_at rest ≡ header → header_fault header ≡ None → length passed ≡ skipped → drop 12 rest ≡ passed ++ behind.now → seen result ≡ shown rest }
+    ensures { (rest passed : List ℕ) → 12 ≤ length rest → header_at rest ≡ header → head_fault header ≡ None → length passed ≡ skipped → drop 12 rest ≡ passed ++ behind.now → seen result ≡ shown rest }
 {
     let len = header.len as usize;
     let there = skipped + behind.len();
