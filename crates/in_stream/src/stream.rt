@@ -3,14 +3,15 @@ ghost use Rattle.std.specs.Prelude.{◌≡◌, ℕ, ◌+◌, ◌-◌, ◌<◌, �
 ghost use Rattle.gui_wire.specs.Headers.{header_at};
 ghost use Rattle.desk_laws.specs.Stream.{Wait, front_by, head_fault};
 ghost use Rattle.in_stream.specs.Received.{StandsFor};
-ghost use Rattle.in_stream.specs.Shown.{is_passed_over, shown, word_shown};
+ghost use Rattle.desk_laws.specs.Stage.{takes_type};
+ghost use Rattle.in_stream.specs.Shown.{is_passed_over, shown, word_shown, checked_head};
 ghost use Rattle.in_stream.specs.Seen.{seen};
 ghost use Rattle.in_stream.specs.Taking.{room, to_skip, kept, HasUnit, DropsUnit};
 
 use crate::Front;
 use crate::buffer::Buffer;
 use gui_num::NoMemory;
-use gui_wire::{Header, head_check, header_of};
+use gui_wire::{Header, WireFault, head_check, header_of};
 use std::alloc::Global;
 use std::marker::Model;
 
@@ -18,7 +19,11 @@ const WORD_LEN: usize = 4;
 
 const HEADER_LEN: usize = 12;
 
+const SHMIMAGE: u32 = 136;
+
 const CLIPBOARD_DATA: u32 = 140;
+
+const WINDOW_FLAGS: u32 = 145;
 
 const LONGEST_CLIP_KEPT: u32 = 65_000;
 
@@ -112,7 +117,7 @@ impl InStream {
             };
         }
         let header = header_of(held);
-        if let Err(fault) = head_check(header) {
+        if let Err(fault) = head_checked(header) {
             return Front::Bad { header, fault };
         }
         if header.kind == CLIPBOARD_DATA && header.len > LONGEST_CLIP {
@@ -157,6 +162,24 @@ impl InStream {
         self.buffer.cut(HEADER_LEN, here);
         self.skipped += here + there;
         there
+    }
+}
+
+// Whether messages of this type are taken, so far.
+fn takes_type(kind: u32) -> bool
+    ensures { result ≡ takes_type kind }
+{
+    kind != SHMIMAGE && kind != WINDOW_FLAGS
+}
+
+// Why a header is refused: its type isn't taken, or its length doesn't fit it.
+fn head_checked(header: Header) -> Result<(), WireFault>
+    ensures { result ≡ checked_head header }
+{
+    if takes_type(header.kind) {
+        head_check(header)
+    } else {
+        Err(WireFault::Kind(header.kind))
     }
 }
 
