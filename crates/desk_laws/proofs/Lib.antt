@@ -8,3 +8,7 @@ pub mod RowLemmas
 pub mod RuleLemmas
 pub mod UnitLemmas
 pub mod VerdictLemmas
+pub mod IdLemmas
+pub mod ChangeLemmas
+pub mod FollowLemmas
+pub mod FollowChanges

@@ -14,6 +14,7 @@ pub mod Effects
 pub mod Checks
 pub mod Grants
 pub mod Layers
+pub mod Following
 pub mod Picture
 pub mod Clipboard
 pub mod Scene
