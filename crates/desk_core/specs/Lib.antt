@@ -4,3 +4,6 @@ pub mod Drawing
 pub mod DeskPosts
 pub mod DeskView
 pub mod DeskStands
+pub mod PieceSteps
+pub mod Stacked
+pub mod Kept

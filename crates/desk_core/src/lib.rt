@@ -6,7 +6,9 @@
 #![tactic(auto)]
 
 mod desk;
+mod draw;
 mod picture;
+mod stack;
 
 pub use desk::{Desk, Stepped, Summary};
 pub use picture::Picture;

@@ -4,9 +4,9 @@
 //! one is the first to have the focus. Stacking and focus are this project's own.
 #![tactic(auto)]
 
-ghost use Rattle.std.specs.Prelude.{◌≡◌, ◌+◌, ◌<◌, ◌≤◌, ◌↔◌, [], ◌∷◌, ◌++◌, false, if◌then◌else◌, length, reverse, slice_get, vec_len, vec_capacity, IsTrue, IsNone, IfOk};
+ghost use Rattle.std.specs.Prelude.{◌≡◌, ◌+◌, ◌<◌, ◌≤◌, ◌↔◌, [], ◌∷◌, ◌++◌, ◌==◌, not, filter, false, if◌then◌else◌, length, reverse, slice_get, vec_len, vec_capacity, IsTrue, IsNone, IfOk};
 ghost use Rattle.desk_laws.specs.Layers.{HaveRowsOnce, no_layers, is_in, without, to_end, entered, departed, raised, relayered, id_from_top};
-ghost use Rattle.stacking.specs.Stacked.{of_others, guest_departed};
+ghost use Rattle.desk_laws.specs.Following.{without_guest};
 
 use desk_laws::RowId;
 use gui_num::NoMemory;
@@ -63,9 +63,8 @@ impl Stacking {
         }
     }
 
-    /// Takes out a row that is unmapped or gone.
+    /// Takes out a row that is unmapped or gone, if it is there.
     pub fn leave(&mut self, id: RowId)
-        requires { IsTrue (is_in self.old.layers.focus id) }
         ensures { self.new ≡ record self.old { layers = departed id self.old.layers } }
     {
         take_out(&mut self.normal, id);
@@ -75,7 +74,7 @@ impl Stacking {
 
     /// Takes out all rows of a guest, counted from 0.
     pub fn leave_guest(&mut self, guest: u32)
-        ensures { self.new ≡ record self.old { layers = guest_departed guest self.old.layers } }
+        ensures { self.new ≡ record self.old { layers = without_guest guest self.old.layers } }
     {
         take_guest_out(&mut self.normal, guest);
         take_guest_out(&mut self.over, guest);
@@ -159,7 +158,7 @@ fn take_out(ids: &mut Vec<RowId>, id: RowId)
 }
 
 fn take_guest_out(ids: &mut Vec<RowId>, guest: u32)
-    ensures items { ids.new.items ≡ of_others guest ids.old.items }
+    ensures items { ids.new.items ≡ filter (λ id. not (id.guest == guest)) ids.old.items }
     ensures capacity { vec_capacity ids.new ≡ vec_capacity ids.old }
 {
     ids.retain(|id| id.guest != guest);
