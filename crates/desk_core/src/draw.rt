@@ -11,8 +11,8 @@ ghost use Rattle.desk_core.specs.Drawing.{colour_under, is_shown_pane};
 
 use crate::picture::Picture;
 use desk_laws::RowId;
-use gui_num::{Colour, grow};
 use guest_session::{Pane, Session};
+use gui_num::{Colour, grow};
 use stacking::Stacking;
 
 // What a window shows where nothing was read of its content.

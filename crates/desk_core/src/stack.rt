@@ -15,13 +15,7 @@ pub(crate) fn layer_of(session: &Session, window: u32) -> Option<bool>
     ensures sound { HasRows session.now }
 {
     match session.pane(window) {
-        Some(pane) => {
-            if pane.mapped {
-                Some(pane.over)
-            } else {
-                None
-            }
-        }
+        Some(pane) => { if pane.mapped { Some(pane.over) } else { None } }
         None => None,
     }
 }

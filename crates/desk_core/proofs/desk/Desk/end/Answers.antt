@@ -16,7 +16,7 @@ pub invariant_of-self : goal.invariant_of-self
 invariant_of-self g c =
     let i = c.self.inside in
     let D : Stacked → Type 0 = λ s. IsKept i.greeted s.rows
-        (record { border = i.border; background = i.background.0; label = i.label.0; session = c.end.new.self; layers = s.layers; items = i.items; messages = i.messages; picture = i.picture }) in
+    (record { border = i.border; background = i.background.0; label = i.label.0; session = c.end.new.self; layers = s.layers; items = i.items; messages = i.messages; picture = i.picture }) in
     subst D (sym c.leave_guest.ensures) (ends-kept i.greeted i.stack.rows _ c.end.new.self c.args.cause c.self.invariant c.end.ensures)
 
 pub returns-clause-took : goal.returns-clause-took
@@ -26,7 +26,7 @@ returns-clause-took g c =
     let old : DeskView = record { border = i.border; background = i.background.0; label = i.label.0; session = i.session; layers = i.stack.layers; items = i.items; messages = i.messages; picture = i.picture } in
     let new : Stacked → DeskView = λ s. record { border = i.border; background = i.background.0; label = i.label.0; session = c.end.new.self; layers = s.layers; items = i.items; messages = i.messages; picture = i.picture } in
     let P : DeskView → Type 0 = λ d. (setup : Setup) (input : Input) (state : DeskState) → Stands setup d state
-        → StepsTo takes c.args.out.now c.ended-2.new.self setup (new c.leave_guest.new.self) (end_session setup 0 input c.args.cause state) in
+    → StepsTo takes c.args.out.now c.ended-2.new.self setup (new c.leave_guest.new.self) (end_session setup 0 input c.args.cause state) in
     subst P c.self.view_is (λ setup input state stands.
     let going : i.session.ended ≡ None = not-some i.session.ended (ap is_some (sym c.ended.ensures) ∙ sym c.is_some.ensures ∙ c.if-is_some.false) in
     let D : Stacked → Type 0 = λ s. StepsTo takes c.args.out.now c.ended-2.new.self setup (new s) (end_session setup 0 input c.args.cause state) in

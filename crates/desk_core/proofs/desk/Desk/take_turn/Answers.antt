@@ -34,8 +34,8 @@ pub returns-in-Changed-clause-took : goal.returns-in-Changed-clause-took
 returns-in-Changed-clause-took g c =
     let i = c.self.inside in
     let P : DeskView → Type 0 = λ d. (setup : Setup) (held : List ℕ) (state : DeskState) → StandsWith setup held d state
-        → TookSome g.O.Outlet.takes c.args.out.now c.turn.new.out setup held d
-        (record { border = i.border; background = i.background.0; label = i.label.0; session = c.turn.new.self; layers = c.follow.new.stack.layers; items = i.items; messages = c.count_if-self-inside.result; picture = i.picture }) state in
+    → TookSome g.O.Outlet.takes c.args.out.now c.turn.new.out setup held d
+    (record { border = i.border; background = i.background.0; label = i.label.0; session = c.turn.new.self; layers = c.follow.new.stack.layers; items = i.items; messages = c.count_if-self-inside.result; picture = i.picture }) state in
     subst P c.self.view_is (λ setup held state stands.
     exit-changed g.O.Outlet.takes c.args.out.now c.turn.new.out setup held _ c.turn.new.self state stands c.in-Changed.window c.in-Changed.drawn i.greeted c.layer_of-layer.result c.follow.new.stack.layers c.count_if-self-inside.result
     c.in-Changed.ensures.turned c.in-Changed.ensures.over c.layer_of-layer.ensures.sound c.layer_of-layer.ensures.is (ap (λ (s : Stacked). s.layers) c.follow.ensures) c.self.invariant.greeted_is c.count_if-self-inside.ensures)
@@ -77,8 +77,8 @@ returns-in-ClipWhole-clause-took g c =
     let turn = c.turn.result in
     let clip = clip-busy turn c.in-ClipWhole.is in
     let P : DeskView → Type 0 = λ d. (setup : Setup) (held : List ℕ) (state : DeskState) → StandsWith setup held d state
-        → TookSome g.O.Outlet.takes c.args.out.now c.turn.new.out setup held d
-        (record { border = i.border; background = i.background.0; label = i.label.0; session = c.clip_done.new.self; layers = i.stack.layers; items = i.items; messages = c.count_if-self-inside-in-ClipWhole.result; picture = i.picture }) state in
+    → TookSome g.O.Outlet.takes c.args.out.now c.turn.new.out setup held d
+    (record { border = i.border; background = i.background.0; label = i.label.0; session = c.clip_done.new.self; layers = i.stack.layers; items = i.items; messages = c.count_if-self-inside-in-ClipWhole.result; picture = i.picture }) state in
     subst P c.self.view_is (λ setup held state stands.
     exit-clip g.O.Outlet.takes c.args.out.now c.turn.new.out setup held _ c.turn.new.self state stands turn c.clip_done.new.self c.count_if-self-inside-in-ClipWhole.result clip.0 clip.1
     c.turn.ensures.turned c.turn.ensures.over c.clip_done.ensures.kept c.clip_done.ensures.drops c.clip_done.ensures.greeted c.count_if-self-inside-in-ClipWhole.ensures)
@@ -101,7 +101,7 @@ invariant_of-self-in-Ended g c =
     let takes = g.O.Outlet.takes in
     let took = exit-ended takes c.args.out.now c.turn.new.out k.setup k.held _ c.turn.new.self k.state k.stands c.ended.new.self c.in-Ended.cause c.in-Ended.ensures.turned c.in-Ended.ensures.over c.ended.ensures in
     let D : Stacked → Type 0 = λ s. IsKept i.greeted s.rows
-        (record { border = i.border; background = i.background.0; label = i.label.0; session = c.turn.new.self; layers = s.layers; items = i.items; messages = i.messages; picture = i.picture }) in
+    (record { border = i.border; background = i.background.0; label = i.label.0; session = c.turn.new.self; layers = s.layers; items = i.items; messages = i.messages; picture = i.picture }) in
     subst D (sym c.leave_guest.ensures)
     (took-kept takes c.args.out.now c.ended.new.self i.greeted i.greeted i.stack.rows i.stack.rows _ _ k took
     (λ still. absurd (exit-over takes c.args.out.now c.turn.new.out k.setup k.held _ c.turn.new.self k.state c.in-Ended.cause k.stands c.in-Ended.ensures.turned c.in-Ended.ensures.over still)) refl)
@@ -111,12 +111,12 @@ returns-in-Ended-clause-took g c =
     let i = c.self.inside in
     let takes = g.O.Outlet.takes in
     let P : DeskView → Type 0 = λ d. (setup : Setup) (held : List ℕ) (state : DeskState) → StandsWith setup held d state
-        → TookSome takes c.args.out.now c.ended.new.self setup held d
-        (record { border = i.border; background = i.background.0; label = i.label.0; session = c.turn.new.self; layers = c.leave_guest.new.self.layers; items = i.items; messages = i.messages; picture = i.picture }) state in
+    → TookSome takes c.args.out.now c.ended.new.self setup held d
+    (record { border = i.border; background = i.background.0; label = i.label.0; session = c.turn.new.self; layers = c.leave_guest.new.self.layers; items = i.items; messages = i.messages; picture = i.picture }) state in
     subst P c.self.view_is (λ setup held state stands.
     let D : Stacked → Type 0 = λ s. TookSome takes c.args.out.now c.ended.new.self setup held
-        (record { border = i.border; background = i.background.0; label = i.label.0; session = i.session; layers = i.stack.layers; items = i.items; messages = i.messages; picture = i.picture })
-        (record { border = i.border; background = i.background.0; label = i.label.0; session = c.turn.new.self; layers = s.layers; items = i.items; messages = i.messages; picture = i.picture }) state in
+    (record { border = i.border; background = i.background.0; label = i.label.0; session = i.session; layers = i.stack.layers; items = i.items; messages = i.messages; picture = i.picture })
+    (record { border = i.border; background = i.background.0; label = i.label.0; session = c.turn.new.self; layers = s.layers; items = i.items; messages = i.messages; picture = i.picture }) state in
     subst D (sym c.leave_guest.ensures)
     (exit-ended takes c.args.out.now c.turn.new.out setup held _ c.turn.new.self state stands c.ended.new.self c.in-Ended.cause c.in-Ended.ensures.turned c.in-Ended.ensures.over c.ended.ensures))
 
@@ -126,8 +126,8 @@ pub returns-in-Wait-clause-took : goal.returns-in-Wait-clause-took
 returns-in-Wait-clause-took g c =
     let i = c.self.inside in
     let P : DeskView → Type 0 = λ d. (setup : Setup) (held : List ℕ) (state : DeskState) → StandsWith setup held d state
-        → TookSome g.O.Outlet.takes c.args.out.now c.turn.new.out setup held d
-        (record { border = i.border; background = i.background.0; label = i.label.0; session = c.turn.new.self; layers = i.stack.layers; items = i.items; messages = i.messages; picture = i.picture }) state in
+    → TookSome g.O.Outlet.takes c.args.out.now c.turn.new.out setup held d
+    (record { border = i.border; background = i.background.0; label = i.label.0; session = c.turn.new.self; layers = i.stack.layers; items = i.items; messages = i.messages; picture = i.picture }) state in
     subst P c.self.view_is (λ setup held state stands. exit-stays g.O.Outlet.takes c.args.out.now c.turn.new.out setup held _ c.turn.new.self state stands c.in-Wait.ensures.turned c.in-Wait.ensures.over)
 
 pub returns-in-Wait-clause-settled : goal.returns-in-Wait-clause-settled
