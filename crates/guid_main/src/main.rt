@@ -5,6 +5,8 @@ mod config;
 mod desk;
 mod desk_run;
 mod item_writer;
+#[cfg(test)]
+mod message_tests;
 mod outcome;
 mod part;
 mod picture;
