@@ -4,6 +4,7 @@ pub mod CheckLemmas
 pub mod CuttingLemmas
 pub mod LayerLemmas
 pub mod PaintLemmas
+pub mod PieceLemmas
 pub mod RowLemmas
 pub mod RuleLemmas
 pub mod UnitLemmas

@@ -22,4 +22,5 @@ pub mod State
 pub mod Settle
 pub mod Events
 pub mod Steps
+pub mod Pieces
 pub mod WorkedRows

@@ -1,5 +1,6 @@
 // What is known of the definitions.
 ghost use Rattle.desk_laws.specs.Cutting.{CutsInPieces};
+ghost use Rattle.desk_laws.specs.Pieces.{PiecesJoin};
 ghost use Rattle.desk_laws.specs.Following.{MessagesChangeOne, ListsFollowOne, ListsFollowEnd};
 
 /// Does nothing. Its contract says that a guest's bytes may come in any pieces: where no fault stands
@@ -7,6 +8,13 @@ ghost use Rattle.desk_laws.specs.Following.{MessagesChangeOne, ListsFollowOne, L
 /// units of what they left followed by the other bytes.
 pub fn law_of_cutting()
     ensures { CutsInPieces }
+{}
+
+/// Does nothing. Its contract says that it doesn't matter in which pieces a guest's bytes come: two
+/// pieces have the posts, inputs, readings and end state of the one piece that is both, but for the
+/// count of items. This holds also where the session ends within the first piece, or had ended.
+pub fn law_of_pieces()
+    ensures { PiecesJoin }
 {}
 
 /// Does nothing. Its contract says that a message changes the row of its own window alone; that the
