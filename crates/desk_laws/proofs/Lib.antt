@@ -1,4 +1,5 @@
 pub mod GridLemmas
+pub mod EndLemmas
 pub mod Cutting
 pub mod CheckLemmas
 pub mod CuttingLemmas

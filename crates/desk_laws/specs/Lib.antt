@@ -23,4 +23,5 @@ pub mod Settle
 pub mod Events
 pub mod Steps
 pub mod Pieces
+pub mod Endings
 pub mod WorkedRows

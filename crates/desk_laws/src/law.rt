@@ -1,6 +1,7 @@
 // What is known of the definitions.
 ghost use Rattle.desk_laws.specs.Cutting.{CutsInPieces};
 ghost use Rattle.desk_laws.specs.Pieces.{PiecesJoin};
+ghost use Rattle.desk_laws.specs.Endings.{EndsLeaveNothing, EndedDoesNothing};
 ghost use Rattle.desk_laws.specs.Following.{MessagesChangeOne, ListsFollowOne, ListsFollowEnd};
 
 /// Does nothing. Its contract says that a guest's bytes may come in any pieces: where no fault stands
@@ -25,4 +26,12 @@ pub fn law_of_changes()
     ensures one_window { MessagesChangeOne }
     ensures one_row { ListsFollowOne }
     ensures an_end { ListsFollowEnd }
+{}
+
+/// Does nothing. Its contract says that the item at which a guest's session ends leaves no window and
+/// no bytes of the guest, and that the guest's later bytes, ends and changes of frames are counted
+/// as items and do nothing else.
+pub fn law_ended_session()
+    ensures gone { EndsLeaveNothing }
+    ensures over { EndedDoesNothing }
 {}
