@@ -25,3 +25,4 @@ pub mod Steps
 pub mod Pieces
 pub mod Endings
 pub mod WorkedRows
+pub mod WorkedStreams

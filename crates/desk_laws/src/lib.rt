@@ -24,4 +24,4 @@ pub use item::Item;
 pub use law::{law_ended_session, law_of_changes, law_of_cutting, law_of_pieces};
 pub use row_id::RowId;
 pub use setup::{GuestSetup, Guests, Name, Setup};
-pub use worked::worked_rows;
+pub use worked::{worked_rows, worked_streams};
