@@ -7,6 +7,7 @@ use Rattle.desk_laws.specs.declared.setup.Setup.{Setup}
 use Rattle.desk_laws.specs.declared.item.Item.TheVariants as item
 use Rattle.desk_laws.specs.declared.cause.Cause.TheVariants as cause
 use Rattle.desk_laws.specs.Items.{FedItem}
+use Rattle.desk_laws.specs.Rows.{span}
 use Rattle.desk_laws.specs.Scene.{Post, Reply, Ended, Picture, Summary}
 use Rattle.desk_laws.specs.State.{opening}
 use Rattle.desk_laws.specs.Steps.{run}
@@ -67,3 +68,8 @@ EarlyEnd = posts (bytes (7 ∷ 0 ∷ 1 ∷ []) ∷ just (item.Closed 0) ∷ []) 
 abbrev pub ClipboardTooLong : Type 0
 ClipboardTooLong = posts (bytes (version ++ words (140 ∷ 1 ∷ 256001 ∷ [])) ∷ [])
     ≡ greeting ++ Ended 0 (cause.ClipTooLong 256001 0) ∷ []
+
+-- the windows 1 to 1025, each in an item of its own: the last is one too many
+abbrev pub WindowLimit : Type 0
+WindowLimit = posts (bytes version ∷ map (λ window. bytes (spelling window (agent.Create 0 0 1 1 0 0))) (span 1 1025))
+    ≡ greeting ++ Ended 0 (cause.TooManyWindows 1025 1024) ∷ []

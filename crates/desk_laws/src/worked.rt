@@ -1,6 +1,6 @@
 // Small runs that the definitions have to give.
 ghost use Rattle.desk_laws.specs.WorkedRows.{EmptyDesktop, OneWindow, WindowOffTheCorner, WindowCreatedTwice};
-ghost use Rattle.desk_laws.specs.WorkedStreams.{OneByteAtATime, WidthOutOfRange, WidthBroughtIntoRange, ReferencePastThePages, DumpAcknowledged, DumpOfAnOldAgent, DumpOfSixteenBits, WrongVersion, EarlyEnd, ClipboardTooLong};
+ghost use Rattle.desk_laws.specs.WorkedStreams.{OneByteAtATime, WidthOutOfRange, WidthBroughtIntoRange, ReferencePastThePages, DumpAcknowledged, DumpOfAnOldAgent, DumpOfSixteenBits, WrongVersion, EarlyEnd, ClipboardTooLong, WindowLimit};
 
 /// The definitions give the small runs that were worked by hand. It does nothing.
 pub fn worked_rows()
@@ -22,4 +22,5 @@ pub fn worked_streams()
     ensures wrong_version { WrongVersion }
     ensures early_end { EarlyEnd }
     ensures clipboard_too_long { ClipboardTooLong }
+    ensures window_limit { WindowLimit }
 {}

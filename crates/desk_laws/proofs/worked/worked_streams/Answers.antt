@@ -42,3 +42,7 @@ returns-clause-early_end c = refl
 pub returns-clause-clipboard_too_long : goal.returns-clause-clipboard_too_long
 unfolding red small_desktop bytes just version window_at posts greeting background label blank ring four_pages dump_of few_posts
 returns-clause-clipboard_too_long c = refl
+
+pub returns-clause-window_limit : goal.returns-clause-window_limit
+unfolding red small_desktop bytes just version window_at posts greeting background label blank ring four_pages dump_of few_posts
+returns-clause-window_limit c = refl
