@@ -1,10 +1,16 @@
 pub mod GridLemmas
+pub mod EndLemmas
 pub mod Cutting
 pub mod CheckLemmas
 pub mod CuttingLemmas
 pub mod LayerLemmas
 pub mod PaintLemmas
+pub mod PieceLemmas
 pub mod RowLemmas
 pub mod RuleLemmas
 pub mod UnitLemmas
 pub mod VerdictLemmas
+pub mod IdLemmas
+pub mod ChangeLemmas
+pub mod FollowLemmas
+pub mod FollowChanges

@@ -14,6 +14,7 @@ pub mod Effects
 pub mod Checks
 pub mod Grants
 pub mod Layers
+pub mod Following
 pub mod Picture
 pub mod Clipboard
 pub mod Scene
@@ -21,4 +22,7 @@ pub mod State
 pub mod Settle
 pub mod Events
 pub mod Steps
+pub mod Pieces
+pub mod Endings
 pub mod WorkedRows
+pub mod WorkedStreams

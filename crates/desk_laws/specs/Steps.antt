@@ -1,5 +1,5 @@
 -- One step of the whole desktop: an item with its piece.
-use Rattle.std.specs.Prelude.{ℕ, ◌+◌, List, [], ◌∷◌, ◌++◌, map, length, Option, Some, None, Bool, true, false, if◌then◌else◌, ◌||◌}
+use Rattle.std.specs.Prelude.{ℕ, ◌+◌, List, [], ◌∷◌, ◌++◌, map, length, Option, Some, None, ◌||◌}
 use Rattle.gui_wire.specs.AgentMessages as agent
 use Rattle.gui_wire.specs.AgentMessages.{AgentMessage, reading}
 use Rattle.desk_laws.specs.declared.setup.Setup.{Setup}
