@@ -1,0 +1,8 @@
+//! The windows of one guest, at most 1024. All memory that a table ever needs is taken as it is made.
+#![tactic(auto)]
+
+mod pane;
+mod table;
+
+pub use pane::{DumpSize, Pane};
+pub use table::Table;

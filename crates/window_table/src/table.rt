@@ -1,0 +1,174 @@
+// The windows of one guest.
+// A STUB: the contracts are the crate's, the bodies are proved from the invariant ⊥ alone.
+ghost use Rattle.std.specs.Prelude.{◌≡◌, ℕ, ◌+◌, ◌<◌, ◌≤◌, [], ◌∷◌, ◌++◌, Some, None, IfOk, IsSome, length, option_map, is_some, slice_index, false};
+ghost use Rattle.std.specs.Borrow.{sem};
+ghost use Rattle.gui_wire.specs.Seen.{references};
+ghost use Rattle.desk_laws.specs.Effects as effects;
+ghost use Rattle.window_table.specs.Entries.{Entry, AreApart, entry_at, entry_with, updated, removed, new_pane, new_entry, plain_rows, with_dump, size_of_dump, refs_in};
+ghost use Rattle.window_table.specs.Lending.{LendsPane};
+
+use crate::{DumpSize, Pane};
+use desk_laws::Ids;
+use gui_num::{NoMemory, Rect};
+use gui_wire::Refs;
+use std::alloc::Global;
+use std::marker::Model;
+
+/// The windows of one guest, each at a slot from 0 to 1023: its id, its dump and its pane. No two
+/// have the same id. They stand in the order in which they were added.
+#[derive(Drop)]
+pub struct Table {
+    pane: Pane,
+}
+
+impl Model for Table {
+    ghost use Rattle.std.specs.Prelude.{[]};
+    ghost use Rattle.window_table.specs.Entries.{TableView};
+
+    ghost Value = { TableView };
+
+    ghost view = { λ t. record { pages = 0; entries = [] } };
+
+    ghost invariant = { λ t. ⊥ };
+}
+
+impl Table {
+    /// An empty table of windows that may have `pages` page references together. `NoMemory` where
+    /// there is no memory for 1024 windows and so many references; no later call takes any.
+    pub fn new(alloc: Global, pages: u32) -> Result<Table, NoMemory>
+        ensures { IfOk result (λ table. table ≡ record { pages = pages; entries = [] }) }
+    {
+        let _ = alloc;
+        let _ = pages;
+        Err(NoMemory)
+    }
+
+    /// Adds a window that the table doesn't have, while there are fewer than 1024, as the last, and
+    /// answers its slot. It is not mapped and has no dump.
+    pub fn add(&mut self, window: u32, place: Rect, parent: u32, asked: bool) -> u32
+        requires unknown { is_some (entry_with window self.old.entries) ≡ false }
+        requires room { length self.old.entries < 1024 }
+        ensures vacant { is_some (entry_at result self.old.entries) ≡ false }
+        ensures below { result < 1024 }
+        ensures added { self.new ≡ record self.old { entries = self.old.entries ++ new_entry result window place parent asked ∷ [] } }
+    {
+        let _ = window;
+        let _ = place;
+        let _ = parent;
+        let _ = asked;
+        self.pane.flags
+    }
+
+    /// The slot of a window, `None` exactly where the table doesn't have it.
+    pub fn slot_of(&self, window: u32) -> Option<u32>
+        ensures slot { result ≡ option_map (λ e. e.slot) (entry_with window self.now.entries) }
+        ensures apart { AreApart self.now.entries }
+        ensures few { length self.now.entries ≤ 1024 }
+    {
+        let _ = window;
+        Some(self.pane.flags)
+    }
+
+    /// The pane of a slot that is held.
+    pub fn get(&self, slot: u32) -> &Pane
+        requires { IsSome (entry_at slot self.now.entries) }
+        ensures { option_map (λ e. e.pane) (entry_at slot self.now.entries) ≡ Some result.now }
+    {
+        let _ = slot;
+        &self.pane
+    }
+
+    /// The pane of a slot that is held, to be changed.
+    pub fn get_mut(&mut self, slot: u32) -> &mut Pane
+        requires { IsSome (entry_at slot self.old.entries) }
+        ensures* lent { sem 𝓛 (LendsPane self.entry slot result) }
+        ensures pane { option_map (λ e. e.pane) (entry_at slot self.old.entries) ≡ Some result.now }
+    {
+        let _ = slot;
+        &mut self.pane
+    }
+
+    /// The id of the window at a slot that is held.
+    pub fn window_at(&self, slot: u32) -> u32
+        requires { IsSome (entry_at slot self.now.entries) }
+        ensures { option_map (λ e. e.window) (entry_at slot self.now.entries) ≡ Some result }
+    {
+        let _ = slot;
+        self.pane.flags
+    }
+
+    /// The size of the dump at a slot that is held, in pixels, `None` exactly where it has no dump.
+    pub fn dump_at(&self, slot: u32) -> Option<DumpSize>
+        requires { IsSome (entry_at slot self.now.entries) }
+        ensures { option_map (λ e. size_of_dump e.dump) (entry_at slot self.now.entries) ≡ Some result }
+    {
+        let _ = slot;
+        let _ = &self.pane;
+        None
+    }
+
+    /// Removes the window at a slot that is held. Other windows that name it as parent or
+    /// transient name 0 afterwards.
+    pub fn remove(&mut self, slot: u32)
+        requires { IsSome (entry_at slot self.old.entries) }
+        ensures { (e : Entry) → entry_at slot self.old.entries ≡ Some e →
+            self.new ≡ record self.old { entries = removed slot e.window self.old.entries } }
+    {
+        let _ = slot;
+        let _ = &self.pane;
+    }
+
+    /// Gives the window at a slot that is held a dump of this size, in pixels, with these page
+    /// references. With the references of the other windows they are at most `pages`.
+    pub fn set_refs(&mut self, slot: u32, refs: &Refs<'_>, width: u32, height: u32)
+        requires held { IsSome (entry_at slot self.old.entries) }
+        requires fits { (e : Entry) → entry_at slot self.old.entries ≡ Some e →
+            effects.refs_besides e.window (plain_rows self.old.entries) + length (references refs.now) ≤ self.old.pages }
+        ensures { self.new ≡ record self.old { entries = updated slot
+            (with_dump (record { width = width; height = height; refs = references refs.now })) self.old.entries } }
+    {
+        let _ = slot;
+        let _ = refs;
+        let _ = width;
+        let _ = height;
+        let _ = &self.pane;
+    }
+
+    /// The page reference with index i, from 0, of the window at a slot that is held.
+    pub fn ref_at(&self, slot: u32, i: u32) -> u32
+        requires held { IsSome (entry_at slot self.now.entries) }
+        requires i { (e : Entry) → entry_at slot self.now.entries ≡ Some e → i < length (refs_in e.dump) }
+        ensures { option_map (λ e. slice_index (refs_in e.dump) i) (entry_at slot self.now.entries) ≡ Some result }
+    {
+        let _ = slot;
+        let _ = i;
+        self.pane.flags
+    }
+
+    /// Removes all windows.
+    pub fn clear(&mut self)
+        ensures { self.new ≡ record self.old { entries = [] } }
+    {
+        let _ = &self.pane;
+    }
+}
+
+impl Ids for Table {
+    ghost use Rattle.window_table.specs.Entries.{plain_rows};
+
+    ghost rows = { λ table. plain_rows table.entries };
+
+    fn known(&self, window: u32) -> bool {
+        let _ = window;
+        self.pane.mapped
+    }
+
+    fn count(&self) -> u32 {
+        self.pane.flags
+    }
+
+    fn refs_besides(&self, window: u32) -> u32 {
+        let _ = window;
+        self.pane.flags
+    }
+}
