@@ -2,6 +2,7 @@
 #![tactic(auto)]
 
 mod pane;
+mod ref_lists;
 mod table;
 
 pub use pane::{DumpSize, Pane};
