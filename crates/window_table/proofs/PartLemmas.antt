@@ -245,6 +245,12 @@ module _ (items places : List ℕ) (pages : ℕ) (cuts : AreCuts items places pa
       by (a ∷ ps) some from rising to =
           let all = sum-parts items a ps rising.1 (omega (arith, to)) in omega (arith, all, from, to)
 
+  -- fewer references fit too
+  pub none-fits : (k : ℕ) → k < length (parts items places) → sum_by length (set (parts items places) k []) ≤ pages
+  none-fits k h =
+      let sums = sum_by-set length (parts items places) k [] [] h in
+      omega (arith, sums, sum-all, cuts.fits)
+
 -- no references, and a place for each slot and one more
 pub cuts-none : (slots pages : ℕ) → pages < 2 ^ 32 → AreCuts [] (replicate (slots + 1) 0) pages
 cuts-none slots pages small =

@@ -78,6 +78,23 @@ impl RefLists {
         exchange(&mut self.items, from as usize, to as usize, refs);
         move_after(&mut self.places, slot, to - from, refs.count());
     }
+
+    // Takes a slot's references away.
+    pub(crate) fn empty(&mut self, slot: usize)
+        requires { slot < length self.old.lists }
+        ensures { self.new ≡ record self.old { lists = slice_set self.old.lists slot [] } }
+    {
+        let _ = &self.items;
+        self.set(slot, &Refs::new(&[]));
+    }
+
+    // Takes all references away.
+    pub(crate) fn clear(&mut self)
+        ensures { self.new ≡ record self.old { lists = no_lists (length self.old.lists) } }
+    {
+        self.items.clear();
+        self.places.fill(0);
+    }
 }
 
 // Moves the places behind a slot.

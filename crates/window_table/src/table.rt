@@ -1,35 +1,44 @@
 // The windows of one guest.
-// A STUB: the contracts are the crate's, the bodies are proved from the invariant ⊥ alone.
-ghost use Rattle.std.specs.Prelude.{◌≡◌, ℕ, ◌+◌, ◌<◌, ◌≤◌, [], ◌∷◌, ◌++◌, Some, None, IfOk, IsSome, length, option_map, is_some, slice_index, false};
+ghost use Rattle.std.specs.Prelude.{◌≡◌, ℕ, ◌+◌, ◌<◌, ◌≤◌, ◌==◌, not, [], ◌∷◌, ◌++◌, Some, None, IfOk, IsSome, length, filter, option_map, is_some, slice_index, vec_capacity, false};
 ghost use Rattle.std.specs.Borrow.{sem};
 ghost use Rattle.gui_wire.specs.Seen.{references};
 ghost use Rattle.desk_laws.specs.Effects as effects;
 ghost use Rattle.window_table.specs.Entries.{Entry, AreApart, entry_at, entry_with, updated, removed, new_pane, new_entry, plain_rows, with_dump, size_of_dump, refs_in};
 ghost use Rattle.window_table.specs.Lending.{LendsPane};
 
+use crate::held::{Held, forget, slot_with};
+use crate::ref_lists::RefLists;
 use crate::{DumpSize, Pane};
+use arrayvec::ArrayVec;
 use desk_laws::Ids;
 use gui_num::{NoMemory, Rect};
 use gui_wire::Refs;
+use slab::Slab;
 use std::alloc::Global;
 use std::marker::Model;
+
+// The windows that a guest may have.
+const WINDOWS: usize = 1024;
 
 /// The windows of one guest, each at a slot from 0 to 1023: its id, its dump and its pane. No two
 /// have the same id. They stand in the order in which they were added.
 #[derive(Drop)]
 pub struct Table {
-    pane: Pane,
+    held: Slab<Held>,
+    refs: RefLists,
+    order: Vec<u32>,
 }
 
 impl Model for Table {
-    ghost use Rattle.std.specs.Prelude.{[]};
+    ghost use Rattle.std.specs.Prelude.{◌≡◌, vec_capacity};
     ghost use Rattle.window_table.specs.Entries.{TableView};
+    ghost use Rattle.window_table.specs.Kept.{entries_of, IsKept};
 
     ghost Value = { TableView };
 
-    ghost view = { λ t. record { pages = 0; entries = [] } };
+    ghost view = { λ t. record { pages = t.refs.pages; entries = entries_of t.held t.refs.lists t.order.items } };
 
-    ghost invariant = { λ t. ⊥ };
+    ghost invariant = { λ t. IsKept t.held t.refs.lists t.order.items × (vec_capacity t.order ≡ 1024) };
 }
 
 impl Table {
@@ -38,9 +47,13 @@ impl Table {
     pub fn new(alloc: Global, pages: u32) -> Result<Table, NoMemory>
         ensures { IfOk result (λ table. table ≡ record { pages = pages; entries = [] }) }
     {
-        let _ = alloc;
-        let _ = pages;
-        Err(NoMemory)
+        let held = Slab::with_capacity(alloc, WINDOWS)?;
+        if held.capacity() != WINDOWS {
+            return Err(NoMemory);
+        }
+        let refs = RefLists::new(alloc, WINDOWS, pages)?;
+        let order = Vec::with_capacity(alloc, WINDOWS)?;
+        Ok(Table { held, refs, order })
     }
 
     /// Adds a window that the table doesn't have, while there are fewer than 1024, as the last, and
@@ -52,11 +65,14 @@ impl Table {
         ensures below { result < 1024 }
         ensures added { self.new ≡ record self.old { entries = self.old.entries ++ new_entry result window place parent asked ∷ [] } }
     {
-        let _ = window;
-        let _ = place;
-        let _ = parent;
-        let _ = asked;
-        self.pane.flags
+        let held = Held {
+            window,
+            size: None,
+            pane: pane_of(place, parent, asked),
+        };
+        let slot = self.held.insert_reserved(held) as u32;
+        self.order.push_reserved(slot);
+        slot
     }
 
     /// The slot of a window, `None` exactly where the table doesn't have it.
@@ -65,8 +81,7 @@ impl Table {
         ensures apart { AreApart self.now.entries }
         ensures few { length self.now.entries ≤ 1024 }
     {
-        let _ = window;
-        Some(self.pane.flags)
+        slot_with(&self.held, &self.order, window)
     }
 
     /// The pane of a slot that is held.
@@ -74,8 +89,7 @@ impl Table {
         requires { IsSome (entry_at slot self.now.entries) }
         ensures { option_map (λ e. e.pane) (entry_at slot self.now.entries) ≡ Some result.now }
     {
-        let _ = slot;
-        &self.pane
+        &self.held[slot as usize].pane
     }
 
     /// The pane of a slot that is held, to be changed.
@@ -84,8 +98,8 @@ impl Table {
         ensures* lent { sem 𝓛 (LendsPane self.entry slot result) }
         ensures pane { option_map (λ e. e.pane) (entry_at slot self.old.entries) ≡ Some result.now }
     {
-        let _ = slot;
-        &mut self.pane
+        let held = &mut self.held[slot as usize];
+        &mut held.pane
     }
 
     /// The id of the window at a slot that is held.
@@ -93,8 +107,7 @@ impl Table {
         requires { IsSome (entry_at slot self.now.entries) }
         ensures { option_map (λ e. e.window) (entry_at slot self.now.entries) ≡ Some result }
     {
-        let _ = slot;
-        self.pane.flags
+        self.held[slot as usize].window
     }
 
     /// The size of the dump at a slot that is held, in pixels, `None` exactly where it has no dump.
@@ -102,9 +115,7 @@ impl Table {
         requires { IsSome (entry_at slot self.now.entries) }
         ensures { option_map (λ e. size_of_dump e.dump) (entry_at slot self.now.entries) ≡ Some result }
     {
-        let _ = slot;
-        let _ = &self.pane;
-        None
+        self.held[slot as usize].size
     }
 
     /// Removes the window at a slot that is held. Other windows that name it as parent or
@@ -114,8 +125,10 @@ impl Table {
         ensures { (e : Entry) → entry_at slot self.old.entries ≡ Some e →
             self.new ≡ record self.old { entries = removed slot e.window self.old.entries } }
     {
-        let _ = slot;
-        let _ = &self.pane;
+        let held = self.held.remove(slot as usize);
+        self.refs.empty(slot as usize);
+        leave(&mut self.order, slot);
+        forget(&mut self.held, held.window);
     }
 
     /// Gives the window at a slot that is held a dump of this size, in pixels, with these page
@@ -127,11 +140,9 @@ impl Table {
         ensures { self.new ≡ record self.old { entries = updated slot
             (with_dump (record { width = width; height = height; refs = references refs.now })) self.old.entries } }
     {
-        let _ = slot;
-        let _ = refs;
-        let _ = width;
-        let _ = height;
-        let _ = &self.pane;
+        self.refs.set(slot as usize, refs);
+        let held = &mut self.held[slot as usize];
+        held.size = Some(DumpSize { width, height });
     }
 
     /// The page reference with index i, from 0, of the window at a slot that is held.
@@ -140,16 +151,45 @@ impl Table {
         requires i { (e : Entry) → entry_at slot self.now.entries ≡ Some e → i < length (refs_in e.dump) }
         ensures { option_map (λ e. slice_index (refs_in e.dump) i) (entry_at slot self.now.entries) ≡ Some result }
     {
-        let _ = slot;
-        let _ = i;
-        self.pane.flags
+        self.refs.at(slot as usize, i)
     }
 
     /// Removes all windows.
     pub fn clear(&mut self)
         ensures { self.new ≡ record self.old { entries = [] } }
     {
-        let _ = &self.pane;
+        self.held.clear();
+        self.refs.clear();
+        self.order.clear();
+    }
+}
+
+// A slot leaves the order.
+fn leave(order: &mut Vec<u32>, slot: u32)
+    ensures items { order.new.items ≡ filter (λ k. not (k == slot)) order.old.items }
+    ensures capacity { vec_capacity order.new ≡ vec_capacity order.old }
+{
+    order.retain(|k| *k != slot);
+}
+
+// A new window's pane.
+fn pane_of(place: Rect, parent: u32, asked: bool) -> Pane
+    ensures { result ≡ new_pane place parent asked }
+{
+    Pane {
+        place,
+        mapped: false,
+        asked,
+        over: false,
+        parent,
+        transient: 0,
+        title: ArrayVec::new(),
+        class: ArrayVec::new(),
+        name: ArrayVec::new(),
+        hints: [0; 9],
+        flags: 0,
+        cursor: 0,
+        docked: false,
     }
 }
 
@@ -159,16 +199,17 @@ impl Ids for Table {
     ghost rows = { λ table. plain_rows table.entries };
 
     fn known(&self, window: u32) -> bool {
-        let _ = window;
-        self.pane.mapped
+        self.slot_of(window).is_some()
     }
 
     fn count(&self) -> u32 {
-        self.pane.flags
+        self.order.len() as u32
     }
 
     fn refs_besides(&self, window: u32) -> u32 {
-        let _ = window;
-        self.pane.flags
+        match slot_with(&self.held, &self.order, window) {
+            Some(slot) => self.refs.total() - self.refs.count(slot as usize),
+            None => self.refs.total(),
+        }
     }
 }
