@@ -250,6 +250,21 @@ module _ (held : Slab Held) (lists : List (List ℕ)) (order : List ℕ) (kept :
       let all = besides-slot-all slot in_ in
       omega (arith, sums, all, fits)
 
+  -- fewer always fit
+  pub set-none-fits : (slot pages : ℕ) → among slot order ≡ true → sum_by length lists ≤ pages → sum_by length (set lists slot []) ≤ pages
+  set-none-fits slot pages in_ fits =
+      let inside : slot < length lists = omega (arith, kept.below slot in_, kept.slots) in
+      let sums = sum_by-set length lists slot [] [] inside in
+      omega (arith, sums, fits)
+
+  -- the references of the other windows are no more than all
+  pub besides-le : (window : ℕ) → refs_besides window (plain_rows (entries_of held lists order)) ≤ sum_by length lists
+  besides-le window = by (find (holds held window) order) refl
+    where
+      by : (o : Option ℕ) → find (holds held window) order ≡ o → refs_besides window (plain_rows (entries_of held lists order)) ≤ sum_by length lists
+      by None none = let all = besides-unknown window none in omega (arith, all)
+      by (Some slot) found = let all = besides-known window slot found in omega (arith, all)
+
 -- the references of a dump are those of its slot
 pub refs-in-by : (size : Option DumpSize) (refs : List ℕ) → (size ≡ None → refs ≡ []) → refs_in (dump_of size refs) ≡ refs
 refs-in-by None refs unused = sym (unused refl)
@@ -308,7 +323,8 @@ module _ (held : Slab Held) (lists : List (List ℕ)) (order : List ℕ) (slot :
 
 -- ---- an empty table
 
-zeros-none : (n : ℕ) → sum_by length (no_lists n) ≡ 0
+-- no references together
+pub zeros-none : (n : ℕ) → sum_by length (no_lists n) ≡ 0
 unfolding no_lists
 zeros-none zero = refl
 zeros-none (suc n) = omega (arith, sum_by-cons length [] (no_lists n), zeros-none n)

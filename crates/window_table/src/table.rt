@@ -30,7 +30,7 @@ pub struct Table {
 }
 
 impl Model for Table {
-    ghost use Rattle.std.specs.Prelude.{◌≡◌, vec_capacity};
+    ghost use Rattle.std.specs.Prelude.{◌≡◌, ◌≤◌, length, sum_by, vec_capacity};
     ghost use Rattle.window_table.specs.Entries.{TableView};
     ghost use Rattle.window_table.specs.Kept.{entries_of, IsKept};
 
@@ -38,7 +38,7 @@ impl Model for Table {
 
     ghost view = { λ t. record { pages = t.refs.pages; entries = entries_of t.held t.refs.lists t.order.items } };
 
-    ghost invariant = { λ t. IsKept t.held t.refs.lists t.order.items × (vec_capacity t.order ≡ 1024) };
+    ghost invariant = { λ t. IsKept t.held t.refs.lists t.order.items × ((vec_capacity t.order ≡ 1024) × (sum_by length t.refs.lists ≤ t.refs.pages)) };
 }
 
 impl Table {
@@ -80,8 +80,18 @@ impl Table {
         ensures slot { result ≡ option_map (λ e. e.slot) (entry_with window self.now.entries) }
         ensures apart { AreApart self.now.entries }
         ensures few { length self.now.entries ≤ 1024 }
+        ensures held { (other : ℕ) → effects.refs_besides other (plain_rows self.now.entries) ≤ self.now.pages }
     {
         slot_with(&self.held, &self.order, window)
+    }
+
+    /// How many windows there are, at most 1024.
+    pub fn len(&self) -> u32
+        ensures count { result ≡ length self.now.entries }
+        ensures apart { AreApart self.now.entries }
+        ensures few { length self.now.entries ≤ 1024 }
+    {
+        self.order.len() as u32
     }
 
     /// The pane of a slot that is held.
@@ -203,7 +213,7 @@ impl Ids for Table {
     }
 
     fn count(&self) -> u32 {
-        self.order.len() as u32
+        self.len()
     }
 
     fn refs_besides(&self, window: u32) -> u32 {

@@ -27,7 +27,7 @@ invariant_of-self c =
     (omega (arith, c.insert_reserved-slot.ensures.key_in_range, c.insert_reserved-slot.ensures.capacity, kept.capacity))
     (omega (arith, room, length-map t.order.items (entry_in t.held t.refs.lists)))
     unknown),
-    c.push_reserved.ensures.capacity ∙ c.self.invariant.1)
+    (c.push_reserved.ensures.capacity ∙ c.self.invariant.1.0, c.self.invariant.1.1))
 
 pub returns-clause-vacant : goal.returns-clause-vacant
 returns-clause-vacant c =

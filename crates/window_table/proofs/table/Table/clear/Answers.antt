@@ -6,7 +6,7 @@ use Rattle.window_table.specs.Entries.{Entry, TableView, entry_at, entry_with, u
 use Rattle.window_table.specs.Kept.{IsKept, entry_in, entries_of, window_of, size_in, pane_in, dump_of, holds, among, entry_of}
 use Rattle.window_table.specs.declared.held.Held.{Held}
 use Rattle.window_table.specs.Parts.{RefListsView, no_lists}
-use Rattle.window_table.proofs.KeptLemmas.{kept-none}
+use Rattle.window_table.proofs.KeptLemmas.{kept-none, zeros-none}
 use Rattle.window_table.proofs.table.Table.clear.Goals as goal
 
 pub invariant_of-self : goal.invariant_of-self
@@ -17,4 +17,5 @@ invariant_of-self c =
     let lists : c.clear-2.new.self.lists ≡ no_lists 1024 = ap (λ r. r.lists) c.clear-2.ensures ∙ ap no_lists kept.slots in
     (subst (λ o. IsKept c.clear.new.self c.clear-2.new.self.lists o) (sym none)
     (kept-none c.clear.new.self c.clear-2.new.self.lists c.clear.ensures.empty (c.clear.ensures.capacity ∙ kept.capacity) lists),
-    c.clear-3.ensures.capacity ∙ c.self.invariant.1)
+    (c.clear-3.ensures.capacity ∙ c.self.invariant.1.0,
+    omega (arith, ap (λ ls. sum_by length ls) lists, zeros-none 1024)))

@@ -6,7 +6,7 @@ use Rattle.window_table.specs.Entries.{Entry, TableView, entry_at, entry_with, u
 use Rattle.window_table.specs.Kept.{IsKept, entry_in, entries_of, window_of, size_in, pane_in, dump_of, holds, among, entry_of}
 use Rattle.window_table.specs.declared.held.Held.{Held}
 use Rattle.window_table.specs.Parts.{RefListsView, no_lists}
-use Rattle.window_table.proofs.KeptLemmas.{kept-none}
+use Rattle.window_table.proofs.KeptLemmas.{kept-none, zeros-none}
 use Rattle.window_table.proofs.table.Table.new.Goals as goal
 
 pub invariant_of-result : goal.invariant_of-result
@@ -15,4 +15,4 @@ invariant_of-result c =
     let none : c.in_ok-order.order.items ≡ [] = c.in_ok-order.ensures.items in
     (subst (λ o. IsKept c.in_ok-held.held c.in_ok-refs.refs.lists o) (sym none)
     (kept-none c.in_ok-held.held c.in_ok-refs.refs.lists c.in_ok-held.ensures.empty (omega (arith, c.capacity.ensures.value, c.if-capacity-ne-WINDOWS.false)) lists),
-    c.in_ok-order.ensures.exact)
+    (c.in_ok-order.ensures.exact, omega (arith, ap (λ ls. sum_by length ls) lists, zeros-none 1024)))

@@ -6,7 +6,7 @@ use Rattle.window_table.specs.Entries.{Entry, TableView, entry_at, entry_with, u
 use Rattle.window_table.specs.Kept.{IsKept, entry_in, entries_of, window_of, size_in, pane_in, dump_of, holds, among, entry_of}
 use Rattle.window_table.specs.declared.held.Held.{Held}
 use Rattle.window_table.specs.Parts.{RefListsView, no_lists}
-use Rattle.window_table.proofs.KeptLemmas.{at-among, at-is, kept-remove, entries-remove}
+use Rattle.window_table.proofs.KeptLemmas.{at-among, at-is, kept-remove, set-none-fits, entries-remove}
 use Rattle.window_table.proofs.table.Table.remove.Goals as goal
 
 window_eq : (a b : Entry) → Some a ≡ Some b → a.window ≡ b.window
@@ -51,7 +51,9 @@ invariant_of-self c =
     kept here c.remove-held.ensures.updates c.forget.ensures.each
     (c.forget.ensures.capacity ∙ c.remove-held.ensures.capacity)
     (ap (λ n. n + 1) c.forget.ensures.len ∙ c.remove-held.ensures.len))),
-    c.leave.ensures.capacity ∙ c.self.invariant.1)
+    (c.leave.ensures.capacity ∙ c.self.invariant.1.0,
+    subst (λ r. sum_by length r.lists ≤ r.pages) (sym c.empty.ensures)
+        (set-none-fits t.held t.refs.lists t.order.items kept c.args.slot t.refs.pages here c.self.invariant.1.1)))
 
 pub returns : goal.returns
 returns c = λ e found.

@@ -55,10 +55,14 @@ invariant_of-self c =
     let is = at-is t.held t.refs.lists c.args.slot t.order.items some in
     let new = references c.args.refs.now in
     let size : DumpSize = record { width = c.args.width; height = c.args.height } in
+    let fits : refs_besides (window_of (get t.held c.args.slot)) (plain_rows (entries_of t.held t.refs.lists t.order.items)) + length new ≤ t.refs.pages =
+        subst (λ v. (e : Entry) → entry_at c.args.slot v.entries ≡ Some e → refs_besides e.window (plain_rows v.entries) + length new ≤ v.pages)
+        (sym c.self.view_is) c.requires.fits (entry_in t.held t.refs.lists c.args.slot) is in
     let h = c.index_mut-held.result.now in
     (subst (λ r. IsKept (with_value t.held c.args.slot (record h { size = Some size })) r.lists t.order.items) (sym c.set.ensures)
     (kept-dump t.held t.refs.lists t.order.items c.args.slot h kept here c.index_mut-held.ensures.value size new),
-    c.self.invariant.1)
+    (c.self.invariant.1.0, subst (λ r. sum_by length r.lists ≤ r.pages) (sym c.set.ensures)
+        (set-fits t.held t.refs.lists t.order.items kept c.args.slot t.refs.pages new here fits)))
 
 pub returns : goal.returns
 returns c =

@@ -6,7 +6,7 @@ use Rattle.window_table.specs.Entries.{Entry, TableView, entry_at, entry_with, u
 use Rattle.window_table.specs.Kept.{IsKept, entry_in, entries_of, window_of, size_in, pane_in, dump_of, holds, among, entry_of}
 use Rattle.window_table.specs.declared.held.Held.{Held}
 use Rattle.window_table.specs.Parts.{RefListsView, no_lists}
-use Rattle.window_table.proofs.KeptLemmas.{slot-of-window}
+use Rattle.window_table.proofs.KeptLemmas.{slot-of-window, besides-le}
 use Rattle.window_table.proofs.table.Table.slot_of.Goals as goal
 
 pub returns-clause-slot : goal.returns-clause-slot
@@ -16,3 +16,9 @@ returns-clause-slot c =
     ∙ ap (find (holds t.held c.args.window)) c.deref.ensures.value
     ∙ slot-of-window t.held t.refs.lists t.order.items c.args.window
     ∙ ap (λ v. option_map (λ e. e.slot) (entry_with c.args.window v.entries)) c.self.view_is
+
+pub returns-clause-held : goal.returns-clause-held
+returns-clause-held c =
+    let t = c.self.inside in
+    subst (λ v. (other : ℕ) → refs_besides other (plain_rows v.entries) ≤ v.pages) c.self.view_is
+    (λ other. let le = besides-le t.held t.refs.lists t.order.items c.self.invariant.0 other in omega (arith, le, c.self.invariant.1.1))
