@@ -1,5 +1,6 @@
 -- Entries that stand apart, and their rows.
 use Rattle.std.proofs.Common.{◌≡◌, ℕ, ◌+◌, Bool, true, false, cond, not, ◌||◌, eqb, List, [], ◌∷◌, ◌++◌, length, map, filter, find, sum_by, Option, Some, None, is_some, option_map, refl, sym, ap, ◌∙◌, arith}
+use Rattle.std.proofs.lemmas.Bool.{eqb-true}
 use Rattle.std.proofs.lemmas.List.{map-append}
 use Rattle.std.proofs.lemmas.List.Sums.{sum_by-cons}
 use Rattle.desk_laws.specs.Rows.{Row, row_with}
@@ -49,6 +50,36 @@ apart-removed entries slot window apart = record {
       (once-map (λ x. x.slot) (forgets_window window) (besides_slot slot entries) (λ e. refl)
       (once-filter (λ x. x.slot) (λ e. not (eqb e.slot slot)) entries (once-from (λ x. x.slot) entries apart.slots)));
 }
+
+-- ---- what is found
+
+-- the entry of a window is of this window
+pub found-window : (window : ℕ) (entries : List Entry) (e : Entry) → entry_with window entries ≡ Some e → e.window ≡ window
+found-window window [] e found = absurd cc
+found-window window (x ∷ entries) e found = by (eqb x.window window) refl (λ h. found-window window entries e h) found
+  where
+    by : (b : Bool) → eqb x.window window ≡ b → (entry_with window entries ≡ Some e → e.window ≡ window) →
+        cond b (Some x) (entry_with window entries) ≡ Some e → e.window ≡ window
+    by true is rest found = let same : x ≡ e = cc in sym (ap (λ y. y.window) same) ∙ eqb-true x.window window is
+    by false is rest found = rest found
+
+-- a change of the entry at a slot is found there
+pub at-updated : (slot : ℕ) (change : Entry → Entry) (entries : List Entry) (e : Entry) → ((x : Entry) → (change x).slot ≡ x.slot) →
+    entry_at slot entries ≡ Some e → entry_at slot (updated slot change entries) ≡ Some (change e)
+at-updated slot change [] e same found = absurd cc
+at-updated slot change (x ∷ entries) e same found =
+    by (eqb x.slot slot) refl (λ h. at-updated slot change entries e same h) found
+  where
+    by : (b : Bool) → eqb x.slot slot ≡ b →
+        (entry_at slot entries ≡ Some e → entry_at slot (updated slot change entries) ≡ Some (change e)) →
+        cond b (Some x) (entry_at slot entries) ≡ Some e →
+        cond (eqb (cond b (change x) x).slot slot) (Some (cond b (change x) x)) (entry_at slot (updated slot change entries)) ≡ Some (change e)
+    by true is rest found =
+        let here : x ≡ e = cc in
+        let still : eqb (change x).slot slot ≡ true = ap (λ n. eqb n slot) (same x) ∙ is in
+        ap (λ b. cond b (Some (change x)) (entry_at slot (updated slot change entries))) still ∙ ap (λ y. Some (change y)) here
+    by false is rest found =
+        ap (λ b. cond b (Some x) (entry_at slot (updated slot change entries))) is ∙ rest found
 
 -- ---- rows
 

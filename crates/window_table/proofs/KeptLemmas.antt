@@ -1,5 +1,5 @@
 -- A table's entries, as they are kept.
-use Rattle.std.proofs.Common.{◌≡◌, ◌≢◌, ◌⊎◌, inl, inr, ℕ, zero, suc, ◌+◌, ◌-◌, ◌<◌, ◌≤◌, Bool, true, false, cond, not, ◌||◌, eqb, List, [], ◌∷◌, ◌++◌, length, get_or, set, map, filter, find, replicate, sum_by, count_by, Option, Some, None, is_some, IsSome, option_map, refl, sym, ap, ◌∙◌, subst, arith}
+use Rattle.std.proofs.Common.{◌≡◌, ◌≢◌, ◌⊎◌, inl, inr, ℕ, zero, suc, ◌+◌, ◌-◌, ◌<◌, ◌≤◌, Bool, true, false, cond, not, ◌||◌, eqb, List, [], ◌∷◌, ◌++◌, length, get_or, set, map, filter, find, replicate, sum_by, count_by, Option, Some, None, is_some, IsSome, IfSome, option_map, refl, sym, ap, ◌∙◌, subst, arith}
 use Rattle.std.proofs.lemmas.Bool.{cases_eq, cases_lt, eqb-true, eqb-false, eq-eqb, ne_eqb}
 use Rattle.std.proofs.lemmas.List.{get_or_past, get_or-set_same, get_or-set_other, length-set, length-append, length-replicate, get_or-replicate, map-append}
 use Rattle.std.proofs.lemmas.List.Sums.{sum_by-cons, sum_by-set, sum_by_push}
@@ -94,6 +94,25 @@ module _ (held : Slab Held) (lists : List (List ℕ)) (slot : ℕ) where
       by true e = absurd (none (at-among order e))
       by false e = refl
 
+-- a slot that is there has an entry
+pub among-entry : (held : Slab Held) (lists : List (List ℕ)) (slot : ℕ) (order : List ℕ) → among slot order ≡ true →
+    IsSome (entry_at slot (entries_of held lists order))
+among-entry held lists slot [] e = absurd cc
+among-entry held lists slot (k ∷ order) e = by (eqb k slot) (λ h. among-entry held lists slot order h) e
+  where
+    by : (b : Bool) → (among slot order ≡ true → IsSome (entry_at slot (entries_of held lists order))) → (b || among slot order) ≡ true →
+        is_some (cond b (Some (entry_in held lists k)) (entry_at slot (entries_of held lists order))) ≡ true
+    by true rest e = refl
+    by false rest e = rest e
+
+-- the entry at the slot of a window is the window's
+pub entry-of-window : (held : Slab Held) (lists : List (List ℕ)) (order : List ℕ) (window slot : ℕ) → find (holds held window) order ≡ Some slot →
+    entry_at slot (entries_of held lists order) ≡ entry_with window (entries_of held lists order)
+entry-of-window held lists order window slot found =
+    let there = found-is (λ k. window_of (get held k)) window order slot found in
+    at-is held lists slot order (among-entry held lists slot order there.0)
+    ∙ sym (find-map (λ e. eqb e.window window) (entry_in held lists) order ∙ ap (option_map (entry_in held lists)) found)
+
 -- the slot of a window
 pub slot-of-window : (held : Slab Held) (lists : List (List ℕ)) (order : List ℕ) (window : ℕ) →
     find (holds held window) order ≡ option_map (λ e. e.slot) (entry_with window (entries_of held lists order))
@@ -102,6 +121,21 @@ slot-of-window held lists order window =
     ∙ ap (option_map (λ e. e.slot)) (sym (find-map (λ e. eqb e.window window) (entry_in held lists) order))
   where
     same : (o : Option ℕ) → o ≡ option_map (λ e. e.slot) (option_map (entry_in held lists) o)
+    same None = refl
+    same (Some k) = refl
+
+-- what a caller learns of a window
+pub same-entry : (held : Slab Held) (lists : List (List ℕ)) (order : List ℕ) (window : ℕ) (o : Option ℕ) → o ≡ find (holds held window) order →
+    IfSome o (λ slot. entry_at slot (entries_of held lists order) ≡ entry_with window (entries_of held lists order))
+same-entry held lists order window None e = tt
+same-entry held lists order window (Some slot) e = entry-of-window held lists order window slot (sym e)
+
+pub known-entry : (held : Slab Held) (lists : List (List ℕ)) (order : List ℕ) (window : ℕ) →
+    is_some (entry_with window (entries_of held lists order)) ≡ is_some (find (holds held window) order)
+known-entry held lists order window =
+    ap is_some (find-map (λ e. eqb e.window window) (entry_in held lists) order) ∙ same (find (holds held window) order)
+  where
+    same : (o : Option ℕ) → is_some (option_map (entry_in held lists) o) ≡ is_some o
     same None = refl
     same (Some k) = refl
 
@@ -116,6 +150,7 @@ map-among f g (k ∷ order) same =
     or_last : (a b : Bool) → b ≡ true → (a || b) ≡ true
     or_last true b e = refl
     or_last false b e = e
+
     among-first : (k : ℕ) (order : List ℕ) → (eqb k k || among k order) ≡ true
     among-first k order = ap (λ b. b || among k order) (eq-eqb k k refl)
 
@@ -197,9 +232,13 @@ module _ (held : Slab Held) (lists : List (List ℕ)) (order : List ℕ) (kept :
   refs-same window [] = refl
   refs-same window (k ∷ ks) =
       let here = ap (cond (eqb (window_of (get held k)) window) 0) (refs-by (size_in (get held k)) (get_or lists k []) (kept.unused k)) in
-      omega (arith, here, refs-same window ks,
-      sum_by-cons (λ j. cond (eqb (window_of (get held j)) window) 0 (refs_of (dump_of (size_in (get held j)) (get_or lists j [])))) k ks,
-      sum_by-cons (λ j. cond (eqb (window_of (get held j)) window) 0 (length (get_or lists j []))) k ks)
+      omega (
+        arith,
+        here,
+        refs-same window ks,
+        sum_by-cons (λ j. cond (eqb (window_of (get held j)) window) 0 (refs_of (dump_of (size_in (get held j)) (get_or lists j [])))) k ks,
+        sum_by-cons (λ j. cond (eqb (window_of (get held j)) window) 0 (length (get_or lists j []))) k ks,
+      )
 
   -- the references of the other windows, with those of one slot, are all
   pub besides-slot-all : (slot : ℕ) → among slot order ≡ true →
@@ -218,7 +257,7 @@ module _ (held : Slab Held) (lists : List (List ℕ)) (order : List ℕ) (kept :
       let rows = besides-rows window (entry_in held lists) order in
       let same = refs-same window order in
       let all = besides-none (λ k. window_of (get held k)) (λ k. length (get_or lists k [])) window order
-          (find-none (λ k. window_of (get held k)) window order none) in
+      (find-none (λ k. window_of (get held k)) window order none) in
       omega (arith, rows, same, all, kept.together)
 
   -- of a window that is there
@@ -237,7 +276,7 @@ module _ (held : Slab Held) (lists : List (List ℕ)) (order : List ℕ) (kept :
       let sums = sum_by-set length lists slot refs [] inside in
       let same : length (get_or (set lists slot refs) slot []) ≡ length refs = ap length (get_or-set_same lists slot refs [] inside) in
       let changed = sum-changed (λ k. length (get_or lists k [])) (λ k. length (get_or (set lists slot refs) k [])) slot
-          (λ k differs. ap length (get_or-set_other lists slot k refs [] differs)) order (once-slots held lists order kept.apart) in_ in
+      (λ k differs. ap length (get_or-set_other lists slot k refs [] differs)) order (once-slots held lists order kept.apart) in_ in
       omega (arith, sums, same, changed, kept.together)
 
   -- what a slot's new references must fit into
@@ -371,8 +410,8 @@ module _ (held held' : Slab Held) (lists : List (List ℕ)) (order : List ℕ) (
   entries-add =
       map-append (entry_in held' lists) order (key ∷ [])
       ∙ ap (λ es. es ++ entry_in held' lists key ∷ [])
-          (map-among (entry_in held' lists) (entry_in held lists) order
-          (λ k in_. ap (λ o. entry_of k o (get_or lists k [])) (updates.others k (new-differs k in_))))
+      (map-among (entry_in held' lists) (entry_in held lists) order
+      (λ k in_. ap (λ o. entry_of k o (get_or lists k [])) (updates.others k (new-differs k in_))))
       ∙ ap (λ o. entries_of held lists order ++ entry_of key o (get_or lists key []) ∷ []) updates.changed
       ∙ ap (λ refs. entries_of held lists order ++ entry_of key (Some h) refs ∷ []) new-refs
 
@@ -415,6 +454,7 @@ forgets-none window = by (eqb 0 window)
   where
     nothing : ℕ
     nothing = 0
+
     by : (b : Bool) → cond b nothing nothing ≡ nothing
     by true = refl
     by false = refl

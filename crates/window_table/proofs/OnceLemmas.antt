@@ -60,10 +60,11 @@ once-to f (x ∷ xs) once =
 pub once-push : {X : Type 0} (f : X → ℕ) (xs : List X) (x : X) → OnceBy f xs → has_number f (f x) xs ≡ false → OnceBy f (xs ++ x ∷ [])
 once-push f [] x once none = (refl, tt)
 once-push f (y ∷ xs) x once none =
-    let parts = or_parts (eqb (f y) (f x)) (has_number f (f x) xs) none in
-    (list_any-append (λ z. eqb (f z) (f y)) xs (x ∷ [])
-    ∙ or_from (has_number f (f y) xs) (has_number f (f y) (x ∷ [])) once.0 (or_from (eqb (f x) (f y)) false (eqb-swap (f y) (f x) parts.0) refl),
-    once-push f xs x once.1 parts.1)
+    let parts = or_parts (eqb (f y) (f x)) (has_number f (f x) xs) none in (
+      list_any-append (λ z. eqb (f z) (f y)) xs (x ∷ [])
+          ∙ or_from (has_number f (f y) xs) (has_number f (f y) (x ∷ [])) once.0 (or_from (eqb (f x) (f y)) false (eqb-swap (f y) (f x) parts.0) refl),
+      once-push f xs x once.1 parts.1,
+    )
 
 any-filter : {X : Type 0} (q p : X → Bool) (xs : List X) → list_any q xs ≡ false → list_any q (filter p xs) ≡ false
 any-filter q p [] e = refl
@@ -164,6 +165,7 @@ among-without slot other (k ∷ order) e = by (eqb k slot) refl (λ h. among-wit
         ((b || among other order) ≡ true) × (other ≢ slot)
     here differs rest true is e = (refl, λ same. eqb-false k slot differs (eqb-true k other is ∙ same))
     here differs rest false is e = rest e
+
     by : (b : Bool) → eqb k slot ≡ b →
         (among other (filter (λ j. not (eqb j slot)) order) ≡ true → (among other order ≡ true) × (other ≢ slot)) →
         among other (cond (not b) (k ∷ filter (λ j. not (eqb j slot)) order) (filter (λ j. not (eqb j slot)) order)) ≡ true →
@@ -178,6 +180,7 @@ among-push order key other e = by (among other order) refl (sym (list_any-append
     last : (b : Bool) → eqb key other ≡ b → (b || false) ≡ true → other ≡ key
     last true is e = sym (eqb-true key other is)
     last false is e = absurd cc
+
     by : (b : Bool) → among other order ≡ b → (b || (eqb key other || false)) ≡ true → (among other order ≡ true) ⊎ (other ≡ key)
     by true is e = inl is
     by false is e = inr (last (eqb key other) refl e)

@@ -130,8 +130,8 @@ module _ (items : List ℕ) (from to : ℕ) (new : List ℕ) (inside : from ≤ 
       let width : moved (to - from) (length new) b - moved (to - from) (length new) a ≡ b - a = omega (arith, r.0, r.1.0) in
       let items' = spliced items from to new in
       let head : take (moved (to - from) (length new) b - moved (to - from) (length new) a) (drop (moved (to - from) (length new) a) items') ≡ take (b - a) (drop a items) =
-          ap (λ n. take n (drop (moved (to - from) (length new) a) items')) width
-          ∙ ap (take (b - a)) (spliced-behind a (omega (arith, r.0)) le) in
+      ap (λ n. take n (drop (moved (to - from) (length new) a) items')) width
+      ∙ ap (take (b - a)) (spliced-behind a (omega (arith, r.0)) le) in
       let later = parts-behind a (b ∷ places) le (omega (arith, r.0)) r.1 in
       ap (λ x. x ∷ parts items' (map (moved (to - from) (length new)) (b ∷ places))) head
       ∙ ap (λ xs. take (b - a) (drop a items) ∷ xs) later
@@ -152,14 +152,14 @@ module _ (items new : List ℕ) (from to : ℕ) (le : from ≤ to) (inside : to 
       let items' = spliced items from to new in
       let width : moved (to - from) (length new) b - a ≡ length new = omega arith in
       let head : take (moved (to - from) (length new) b - a) (drop a items') ≡ new =
-          ap (λ n. take n (drop a items')) width ∙ ap (λ n. take (length new) (drop n items')) f
-          ∙ spliced-part items from to new (omega arith) in
+      ap (λ n. take n (drop a items')) width ∙ ap (λ n. take (length new) (drop n items')) f
+      ∙ spliced-part items from to new (omega arith) in
       let later = parts-behind items from to new (omega arith) b (b ∷ places) le (omega arith) (omega arith, r.1.1) in
       ap (λ x. x ∷ parts items' (map (moved (to - from) (length new)) (b ∷ places))) head ∙ ap (λ xs. new ∷ xs) later
   parts-set (suc slot) low (a ∷ b ∷ places) r h f t =
       let items' = spliced items from to new in
       let below : b ≤ from = let g = rises-ge a (b ∷ places) slot r.1 (omega arith) in
-          let up = rises-le a (b ∷ places) 0 slot r.1 (omega arith) (omega arith) in omega (arith, f) in
+      let up = rises-le a (b ∷ places) 0 slot r.1 (omega arith) (omega arith) in omega (arith, f) in
       let head = spliced-before items from to new (omega arith) a b (omega (arith, r.1.0)) below in
       let later = parts-set slot a (b ∷ places) r.1 (omega arith) f t in
       parts-step items' slot (to - from) (length new) a b places
@@ -216,7 +216,7 @@ module _ (items places : List ℕ) (pages : ℕ) (cuts : AreCuts items places pa
       let inside : k + 1 < length places = place-inside k h in
       let most : get_or places (k + 1) 0 ≤ length items = place-in (k + 1) inside in
       let wide : get_or places (k + 1) 0 - get_or places k 0 ≤ length (drop (get_or places k 0) items) =
-          omega (arith, length-drop (get_or places k 0) items) in
+      omega (arith, length-drop (get_or places k 0) items) in
       sym (ap length (part-is k h) ∙ length-take-le (get_or places (k + 1) 0 - get_or places k 0) (drop (get_or places k 0) items) wide)
 
   -- where a reference of a part stands
@@ -267,6 +267,7 @@ cuts-none slots pages small =
     rises-zeros : (n : ℕ) → RisesFrom 0 (replicate n 0)
     rises-zeros zero = tt
     rises-zeros (suc n) = (omega arith, rises-zeros n)
+
     last-zeros : (n : ℕ) → last_place 0 (replicate n 0) ≡ 0
     last-zeros zero = refl
     last-zeros (suc n) = last-zeros n
@@ -324,13 +325,13 @@ module _ (items places new : List ℕ) (pages slot : ℕ) (cuts : AreCuts items 
       let room = exchange-room in
       let same : slot + 1 ≡ suc slot = omega arith in
       let taken : get_or places (suc slot) 0 - get_or places slot 0 ≡ get_or places (slot + 1) 0 - get_or places slot 0 =
-          ap (λ n. get_or places n 0 - get_or places slot 0) (sym same) in
+      ap (λ n. get_or places n 0 - get_or places slot 0) (sym same) in
       let long = length-moved_after slot (get_or places (slot + 1) 0 - get_or places slot 0) (length new) places in
       let size = length-spliced items (get_or places slot 0) (get_or places (slot + 1) 0) new (omega arith) most in
       let end : last_place 0 (moved_after slot (get_or places (slot + 1) 0 - get_or places slot 0) (length new) places)
-              ≡ moved (get_or places (slot + 1) 0 - get_or places slot 0) (length new) (last_place 0 places) =
-          subst (λ t. last_place 0 (moved_after slot t (length new) places) ≡ moved t (length new) (last_place 0 places)) taken
-          (last-moved 0 slot (length new) places cuts.rising (omega arith)) in
+      ≡ moved (get_or places (slot + 1) 0 - get_or places slot 0) (length new) (last_place 0 places) =
+      subst (λ t. last_place 0 (moved_after slot t (length new) places) ≡ moved t (length new) (last_place 0 places)) taken
+      (last-moved 0 slot (length new) places cuts.rising (omega arith)) in
       record {
         some = omega (arith, long);
         from = get_or-moved_before slot (get_or places (slot + 1) 0 - get_or places slot 0) (length new) places 0 (omega arith) ∙ cuts.from;
@@ -361,12 +362,12 @@ put-back items new from to inside =
     let rest : drop from ((front ++ back) ++ new) ≡ back ++ new = ap (drop from) all ∙ drop_at front (back ++ new) from long in
     let first : take from ((front ++ back) ++ new) ≡ front = ap (take from) all ∙ take_at front (back ++ new) from long in
     let size : length ((front ++ back) ++ new) - from - length new ≡ length back =
-        omega (arith, length-append (front ++ back) new, length-append front back, long) in
+    omega (arith, length-append (front ++ back) new, length-append front back, long) in
     let n = length ((front ++ back) ++ new) - from - length new in
     let behind : drop n (drop from ((front ++ back) ++ new)) ≡ new =
-        ap (drop n) rest ∙ drop_at back new n (sym size) in
+    ap (drop n) rest ∙ drop_at back new n (sym size) in
     let before : take n (drop from ((front ++ back) ++ new)) ≡ back =
-        ap (take n) rest ∙ take_at back new n (sym size) in
+    ap (take n) rest ∙ take_at back new n (sym size) in
     ap (λ xs. xs ++ (drop n (drop from ((front ++ back) ++ new)) ++ take n (drop from ((front ++ back) ++ new)))) first
     ∙ ap (λ xs. front ++ (xs ++ take n (drop from ((front ++ back) ++ new)))) behind
     ∙ ap (λ xs. front ++ (new ++ xs)) before

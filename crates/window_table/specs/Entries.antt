@@ -91,7 +91,7 @@ new_entry slot window place parent asked =
 -- an entry that names a window no more, as parent or transient
 abbrev pub forgets_window : ℕ → Entry → Entry
 forgets_window window entry = record entry {
-  pane = record entry.pane { parent = name_without window entry.pane.parent; transient = name_without window entry.pane.transient }
+  pane = record entry.pane { parent = name_without window entry.pane.parent; transient = name_without window entry.pane.transient };
 }
 
 -- the entries without the one at a slot, which no longer name a window

@@ -58,7 +58,7 @@ holds held window slot = window_of (get held slot) == window
 -- what a slot holds, which names a window no more
 abbrev pub forgets_held : ℕ → Held → Held
 forgets_held window held = record held {
-  pane = record held.pane { parent = name_without window held.pane.parent; transient = name_without window held.pane.transient }
+  pane = record held.pane { parent = name_without window held.pane.parent; transient = name_without window held.pane.transient };
 }
 
 -- the slots in order each hold a window, no two the same; a slot without a dump has no references

@@ -8,3 +8,6 @@ mod table;
 
 pub use pane::{DumpSize, Pane};
 pub use table::Table;
+
+#[cfg(test)]
+mod tests;

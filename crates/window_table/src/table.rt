@@ -1,5 +1,5 @@
 // The windows of one guest.
-ghost use Rattle.std.specs.Prelude.{◌≡◌, ℕ, ◌+◌, ◌<◌, ◌≤◌, ◌==◌, not, [], ◌∷◌, ◌++◌, Some, None, IfOk, IsSome, length, filter, option_map, is_some, slice_index, vec_capacity, false};
+ghost use Rattle.std.specs.Prelude.{◌≡◌, ℕ, ◌+◌, ◌<◌, ◌≤◌, ◌==◌, not, [], ◌∷◌, ◌++◌, Some, None, IfOk, IfSome, IsSome, length, filter, option_map, is_some, slice_index, vec_capacity, false};
 ghost use Rattle.std.specs.Borrow.{sem};
 ghost use Rattle.gui_wire.specs.Seen.{references};
 ghost use Rattle.desk_laws.specs.Effects as effects;
@@ -78,6 +78,8 @@ impl Table {
     /// The slot of a window, `None` exactly where the table doesn't have it.
     pub fn slot_of(&self, window: u32) -> Option<u32>
         ensures slot { result ≡ option_map (λ e. e.slot) (entry_with window self.now.entries) }
+        ensures known { is_some (entry_with window self.now.entries) ≡ is_some result }
+        ensures same { IfSome result (λ slot. entry_at slot self.now.entries ≡ entry_with window self.now.entries) }
         ensures apart { AreApart self.now.entries }
         ensures few { length self.now.entries ≤ 1024 }
         ensures held { (other : ℕ) → effects.refs_besides other (plain_rows self.now.entries) ≤ self.now.pages }
@@ -147,8 +149,10 @@ impl Table {
         requires held { IsSome (entry_at slot self.old.entries) }
         requires fits { (e : Entry) → entry_at slot self.old.entries ≡ Some e →
             effects.refs_besides e.window (plain_rows self.old.entries) + length (references refs.now) ≤ self.old.pages }
-        ensures { self.new ≡ record self.old { entries = updated slot
-            (with_dump (record { width = width; height = height; refs = references refs.now })) self.old.entries } }
+        ensures { self.new ≡ record self.old {
+          entries = updated slot
+              (with_dump (record { width = width; height = height; refs = references refs.now })) self.old.entries;
+        } }
     {
         self.refs.set(slot as usize, refs);
         let held = &mut self.held[slot as usize];

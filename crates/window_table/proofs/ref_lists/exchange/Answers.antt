@@ -9,7 +9,7 @@ returns-clause-items c =
     let new = references c.args.refs.now in
     let old = c.args.items.now.items in
     let all : c.append.new.items.items ≡ (take c.args.from old ++ drop c.args.to old) ++ new =
-        c.append.ensures.items ∙ ap (λ xs. xs ++ new) c.take_away.ensures.items in
+    c.append.ensures.items ∙ ap (λ xs. xs ++ new) c.take_away.ensures.items in
     c.put_back.ensures.items
     ∙ ap (λ xs. last_put_back xs c.args.from c.count.result) all
     ∙ ap (λ n. last_put_back ((take c.args.from old ++ drop c.args.to old) ++ new) c.args.from n) c.count.ensures

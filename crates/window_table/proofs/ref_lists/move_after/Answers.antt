@@ -13,10 +13,11 @@ loop-k-preserved c =
     let so_far = c.loop-k.invariant.0 in
     let inside : c.loop-k.k < length old = omega (arith, c.loop-k-test.true, c.len-k-end.ensures, c.args.places.now.ok.0) in
     let read : c.index.result.now ≡ get_or now c.loop-k.k 0 =
-        get_or_read now c.loop-k.k c.index.result.now (omega (arith, inside, so_far.long)) c.index.ensures 0 in
-    (subst (λ n. MovedSoFar old (set now c.loop-k.k (n - c.args.taken + c.args.given)) c.args.slot c.args.taken c.args.given (c.loop-k.k + 1)) (sym read)
-    (moved-more old now c.args.slot c.args.taken c.args.given c.loop-k.k so_far c.loop-k.invariant.1 inside),
-    omega (arith, c.loop-k.invariant.1))
+    get_or_read now c.loop-k.k c.index.result.now (omega (arith, inside, so_far.long)) c.index.ensures 0 in (
+      subst (λ n. MovedSoFar old (set now c.loop-k.k (n - c.args.taken + c.args.given)) c.args.slot c.args.taken c.args.given (c.loop-k.k + 1)) (sym read)
+          (moved-more old now c.args.slot c.args.taken c.args.given c.loop-k.k so_far c.loop-k.invariant.1 inside),
+      omega (arith, c.loop-k.invariant.1),
+    )
 
 pub returns : goal.returns
 returns c =

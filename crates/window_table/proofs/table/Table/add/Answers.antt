@@ -16,18 +16,19 @@ invariant_of-self c =
     let kept = c.self.invariant.0 in
     let h : Held = record { window = c.args.window; size = None; pane = c.pane_of.result } in
     let room : length (entries_of t.held t.refs.lists t.order.items) < 1024 =
-        subst (λ v. length v.entries < 1024) (sym c.self.view_is) c.requires.room in
+    subst (λ v. length v.entries < 1024) (sym c.self.view_is) c.requires.room in
     let unknown : is_some (entry_with c.args.window (entries_of t.held t.refs.lists t.order.items)) ≡ false =
-        ap (λ v. is_some (entry_with c.args.window v.entries)) c.self.view_is ∙ c.requires.unknown in
-    let order : c.push_reserved.new.self.items ≡ t.order.items ++ c.insert_reserved-slot.result ∷ [] = c.push_reserved.ensures.items in
-    (subst (λ o. IsKept c.insert_reserved-slot.new.self t.refs.lists o) (sym order)
-    (kept-add t.held c.insert_reserved-slot.new.self t.refs.lists t.order.items c.insert_reserved-slot.result h kept
-    c.insert_reserved-slot.ensures.was_vacant c.insert_reserved-slot.ensures.updates
-    c.insert_reserved-slot.ensures.capacity c.insert_reserved-slot.ensures.len
-    (omega (arith, c.insert_reserved-slot.ensures.key_in_range, c.insert_reserved-slot.ensures.capacity, kept.capacity))
-    (omega (arith, room, length-map t.order.items (entry_in t.held t.refs.lists)))
-    unknown),
-    (c.push_reserved.ensures.capacity ∙ c.self.invariant.1.0, c.self.invariant.1.1))
+    ap (λ v. is_some (entry_with c.args.window v.entries)) c.self.view_is ∙ c.requires.unknown in
+    let order : c.push_reserved.new.self.items ≡ t.order.items ++ c.insert_reserved-slot.result ∷ [] = c.push_reserved.ensures.items in (
+      subst (λ o. IsKept c.insert_reserved-slot.new.self t.refs.lists o) (sym order)
+          (kept-add t.held c.insert_reserved-slot.new.self t.refs.lists t.order.items c.insert_reserved-slot.result h kept
+          c.insert_reserved-slot.ensures.was_vacant c.insert_reserved-slot.ensures.updates
+          c.insert_reserved-slot.ensures.capacity c.insert_reserved-slot.ensures.len
+          (omega (arith, c.insert_reserved-slot.ensures.key_in_range, c.insert_reserved-slot.ensures.capacity, kept.capacity))
+          (omega (arith, room, length-map t.order.items (entry_in t.held t.refs.lists)))
+          unknown),
+      (c.push_reserved.ensures.capacity ∙ c.self.invariant.1.0, c.self.invariant.1.1),
+    )
 
 pub returns-clause-vacant : goal.returns-clause-vacant
 returns-clause-vacant c =
@@ -46,8 +47,8 @@ returns-clause-added c =
     let order : c.push_reserved.new.self.items ≡ t.order.items ++ c.insert_reserved-slot.result ∷ [] = c.push_reserved.ensures.items in
     ap (λ o. record { pages = t.refs.pages; entries = entries_of c.insert_reserved-slot.new.self t.refs.lists o }) order
     ∙ ap (λ es. record { pages = t.refs.pages; entries = es })
-        (entries-add t.held c.insert_reserved-slot.new.self t.refs.lists t.order.items c.insert_reserved-slot.result h kept
-        c.insert_reserved-slot.ensures.was_vacant c.insert_reserved-slot.ensures.updates)
+    (entries-add t.held c.insert_reserved-slot.new.self t.refs.lists t.order.items c.insert_reserved-slot.result h kept
+    c.insert_reserved-slot.ensures.was_vacant c.insert_reserved-slot.ensures.updates)
     ∙ ap (λ p. record {
       pages = t.refs.pages;
       entries = entries_of t.held t.refs.lists t.order.items ++ record { slot = c.insert_reserved-slot.result; window = c.args.window; dump = None; pane = p } ∷ [];

@@ -14,8 +14,11 @@ invariant_of-self c =
     let t = c.self.inside in
     let kept = c.self.invariant.0 in
     let none : c.clear-3.new.self.items ≡ [] = c.clear-3.ensures.items in
-    let lists : c.clear-2.new.self.lists ≡ no_lists 1024 = ap (λ r. r.lists) c.clear-2.ensures ∙ ap no_lists kept.slots in
-    (subst (λ o. IsKept c.clear.new.self c.clear-2.new.self.lists o) (sym none)
-    (kept-none c.clear.new.self c.clear-2.new.self.lists c.clear.ensures.empty (c.clear.ensures.capacity ∙ kept.capacity) lists),
-    (c.clear-3.ensures.capacity ∙ c.self.invariant.1.0,
-    omega (arith, ap (λ ls. sum_by length ls) lists, zeros-none 1024)))
+    let lists : c.clear-2.new.self.lists ≡ no_lists 1024 = ap (λ r. r.lists) c.clear-2.ensures ∙ ap no_lists kept.slots in (
+      subst (λ o. IsKept c.clear.new.self c.clear-2.new.self.lists o) (sym none)
+          (kept-none c.clear.new.self c.clear-2.new.self.lists c.clear.ensures.empty (c.clear.ensures.capacity ∙ kept.capacity) lists),
+      (
+        c.clear-3.ensures.capacity ∙ c.self.invariant.1.0,
+        omega (arith, ap (λ ls. sum_by length ls) lists, zeros-none 1024),
+      ),
+    )

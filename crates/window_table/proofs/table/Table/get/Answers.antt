@@ -14,7 +14,7 @@ index-requires c =
     let t = c.self.inside in
     let kept = c.self.invariant.0 in
     let some : IsSome (entry_at c.args.slot (entries_of t.held t.refs.lists t.order.items)) =
-        subst (λ v. IsSome (entry_at c.args.slot v.entries)) (sym c.self.view_is) c.requires in
+    subst (λ v. IsSome (entry_at c.args.slot v.entries)) (sym c.self.view_is) c.requires in
     let here = at-among t.held t.refs.lists c.args.slot t.order.items some in
     let is = at-is t.held t.refs.lists c.args.slot t.order.items some in
     kept.each c.args.slot here
@@ -24,7 +24,7 @@ returns c =
     let t = c.self.inside in
     let kept = c.self.invariant.0 in
     let some : IsSome (entry_at c.args.slot (entries_of t.held t.refs.lists t.order.items)) =
-        subst (λ v. IsSome (entry_at c.args.slot v.entries)) (sym c.self.view_is) c.requires in
+    subst (λ v. IsSome (entry_at c.args.slot v.entries)) (sym c.self.view_is) c.requires in
     let here = at-among t.held t.refs.lists c.args.slot t.order.items some in
     let is = at-is t.held t.refs.lists c.args.slot t.order.items some in
     ap (λ v. option_map (λ e. e.pane) (entry_at c.args.slot v.entries)) (sym c.self.view_is)

@@ -14,7 +14,7 @@ at-requires-clause-slot c =
     let t = c.self.inside in
     let kept = c.self.invariant.0 in
     let some : IsSome (entry_at c.args.slot (entries_of t.held t.refs.lists t.order.items)) =
-        subst (λ v. IsSome (entry_at c.args.slot v.entries)) (sym c.self.view_is) c.requires.held in
+    subst (λ v. IsSome (entry_at c.args.slot v.entries)) (sym c.self.view_is) c.requires.held in
     let here = at-among t.held t.refs.lists c.args.slot t.order.items some in
     let is = at-is t.held t.refs.lists c.args.slot t.order.items some in
     omega (arith, kept.below c.args.slot here, kept.slots)
@@ -24,7 +24,7 @@ at-requires-clause-i c =
     let t = c.self.inside in
     let kept = c.self.invariant.0 in
     let some : IsSome (entry_at c.args.slot (entries_of t.held t.refs.lists t.order.items)) =
-        subst (λ v. IsSome (entry_at c.args.slot v.entries)) (sym c.self.view_is) c.requires.held in
+    subst (λ v. IsSome (entry_at c.args.slot v.entries)) (sym c.self.view_is) c.requires.held in
     let here = at-among t.held t.refs.lists c.args.slot t.order.items some in
     let is = at-is t.held t.refs.lists c.args.slot t.order.items some in
     let refs_is = refs-in-by (size_in (get t.held c.args.slot)) (get_or t.refs.lists c.args.slot []) (kept.unused c.args.slot) in
@@ -36,7 +36,7 @@ returns c =
     let t = c.self.inside in
     let kept = c.self.invariant.0 in
     let some : IsSome (entry_at c.args.slot (entries_of t.held t.refs.lists t.order.items)) =
-        subst (λ v. IsSome (entry_at c.args.slot v.entries)) (sym c.self.view_is) c.requires.held in
+    subst (λ v. IsSome (entry_at c.args.slot v.entries)) (sym c.self.view_is) c.requires.held in
     let here = at-among t.held t.refs.lists c.args.slot t.order.items some in
     let is = at-is t.held t.refs.lists c.args.slot t.order.items some in
     let refs_is = refs-in-by (size_in (get t.held c.args.slot)) (get_or t.refs.lists c.args.slot []) (kept.unused c.args.slot) in
