@@ -1,0 +1,4 @@
+pub mod PartLemmas
+pub mod OnceLemmas
+pub mod EntryLemmas
+pub mod KeptLemmas

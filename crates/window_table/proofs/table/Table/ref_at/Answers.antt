@@ -1,0 +1,46 @@
+use Rattle.std.proofs.Common.{◌≡◌, ◌<◌, ◌≤◌, ◌+◌, ℕ, [], Some, None, IsSome, option_map, length, get_or, set, sum_by, subst, sym, arith, ap, refl, ◌∙◌}
+use Rattle.gui_wire.specs.Seen.{references}
+use Rattle.slab.specs.Slab.{get, with_value}
+use Rattle.desk_laws.specs.Effects.{refs_besides}
+use Rattle.window_table.specs.Entries.{Entry, TableView, entry_at, entry_with, updated, removed, with_pane, with_dump, size_of_dump, refs_in, plain_rows, new_pane, new_entry}
+use Rattle.window_table.specs.Kept.{IsKept, entry_in, entries_of, window_of, size_in, pane_in, dump_of, holds, among, entry_of}
+use Rattle.window_table.specs.declared.held.Held.{Held}
+use Rattle.window_table.specs.Parts.{RefListsView, no_lists}
+use Rattle.window_table.proofs.KeptLemmas.{at-among, at-is, refs-in-by}
+use Rattle.window_table.proofs.table.Table.ref_at.Goals as goal
+
+pub at-requires-clause-slot : goal.at-requires-clause-slot
+at-requires-clause-slot c =
+    let t = c.self.inside in
+    let kept = c.self.invariant.0 in
+    let some : IsSome (entry_at c.args.slot (entries_of t.held t.refs.lists t.order.items)) =
+    subst (λ v. IsSome (entry_at c.args.slot v.entries)) (sym c.self.view_is) c.requires.held in
+    let here = at-among t.held t.refs.lists c.args.slot t.order.items some in
+    let is = at-is t.held t.refs.lists c.args.slot t.order.items some in
+    omega (arith, kept.below c.args.slot here, kept.slots)
+
+pub at-requires-clause-i : goal.at-requires-clause-i
+at-requires-clause-i c =
+    let t = c.self.inside in
+    let kept = c.self.invariant.0 in
+    let some : IsSome (entry_at c.args.slot (entries_of t.held t.refs.lists t.order.items)) =
+    subst (λ v. IsSome (entry_at c.args.slot v.entries)) (sym c.self.view_is) c.requires.held in
+    let here = at-among t.held t.refs.lists c.args.slot t.order.items some in
+    let is = at-is t.held t.refs.lists c.args.slot t.order.items some in
+    let refs_is = refs-in-by (size_in (get t.held c.args.slot)) (get_or t.refs.lists c.args.slot []) (kept.unused c.args.slot) in
+    let asked = c.requires.i (entry_in t.held t.refs.lists c.args.slot) (ap (λ v. entry_at c.args.slot v.entries) (sym c.self.view_is) ∙ is) in
+    subst (λ xs. c.args.i < length xs) refs_is asked
+
+pub returns : goal.returns
+returns c =
+    let t = c.self.inside in
+    let kept = c.self.invariant.0 in
+    let some : IsSome (entry_at c.args.slot (entries_of t.held t.refs.lists t.order.items)) =
+    subst (λ v. IsSome (entry_at c.args.slot v.entries)) (sym c.self.view_is) c.requires.held in
+    let here = at-among t.held t.refs.lists c.args.slot t.order.items some in
+    let is = at-is t.held t.refs.lists c.args.slot t.order.items some in
+    let refs_is = refs-in-by (size_in (get t.held c.args.slot)) (get_or t.refs.lists c.args.slot []) (kept.unused c.args.slot) in
+    ap (λ v. option_map (λ e. get_or (refs_in e.dump) c.args.i 0) (entry_at c.args.slot v.entries)) (sym c.self.view_is)
+    ∙ ap (option_map (λ e. get_or (refs_in e.dump) c.args.i 0)) is
+    ∙ ap (λ xs. Some (get_or xs c.args.i 0)) refs_is
+    ∙ ap Some (sym c.at.ensures)
