@@ -4,6 +4,7 @@ pub mod Cutting
 pub mod CheckLemmas
 pub mod CuttingLemmas
 pub mod LayerLemmas
+pub mod OtherLemmas
 pub mod PaintLemmas
 pub mod PieceLemmas
 pub mod RowLemmas
