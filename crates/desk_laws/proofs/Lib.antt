@@ -9,6 +9,7 @@ pub mod PaintLemmas
 pub mod PieceLemmas
 pub mod RowLemmas
 pub mod RuleLemmas
+pub mod SoundLemmas
 pub mod UnitLemmas
 pub mod VerdictLemmas
 pub mod IdLemmas

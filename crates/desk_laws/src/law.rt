@@ -2,6 +2,7 @@
 ghost use Rattle.desk_laws.specs.Cutting.{CutsInPieces};
 ghost use Rattle.desk_laws.specs.Pieces.{PiecesJoin};
 ghost use Rattle.desk_laws.specs.Endings.{EndsLeaveNothing, EndedDoesNothing};
+ghost use Rattle.desk_laws.specs.Sound.{OpeningIsSound, StepsKeepSound, RunsAreSound};
 ghost use Rattle.desk_laws.specs.Following.{MessagesChangeOne, OthersKeepRows, ListsFollowOne, ListsFollowEnd};
 
 /// Does nothing. Its contract says that a guest's bytes may come in any pieces: where no fault stands
@@ -36,4 +37,13 @@ pub fn law_of_changes()
 pub fn law_ended_session()
     ensures gone { EndsLeaveNothing }
     ensures over { EndedDoesNothing }
+{}
+
+/// Does nothing. Its contract says of every state that a run of the items that there are so far
+/// reaches: no two windows on the desktop have one guest and number, the lists of the layers have
+/// exactly the mapped windows, each once, and a guest whose session has ended has no window.
+pub fn law_of_sound_states()
+    ensures opening { OpeningIsSound }
+    ensures step { StepsKeepSound }
+    ensures run { RunsAreSound }
 {}
