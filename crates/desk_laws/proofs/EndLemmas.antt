@@ -54,7 +54,7 @@ module _ (setup : Setup) (guest : ℕ) where
           cc
       by_cause e (Some cause) over = ends-gone setup guest (Took u) cause desk known
 
-  length-unit : (u : StreamUnit) (desk : DeskState) → length (take_unit setup guest u desk).desk.sessions ≡ length desk.sessions
+  pub length-unit : (u : StreamUnit) (desk : DeskState) → length (take_unit setup guest u desk).desk.sessions ≡ length desk.sessions
   length-unit u desk = by_end (session_of guest desk).ended
     where
       by_cause : (e : Effect) (c : Option Cause) → length (unit_done setup guest u e c desk).desk.sessions ≡ length desk.sessions
@@ -82,7 +82,7 @@ module _ (setup : Setup) (guest : ℕ) where
           let P : StepOutcome → Type 0 = λ x. IsGone guest x.desk in
           subst P (sym (units-left setup guest units next cause e)) (here (ap is_some e))
 
-  length-rest : (rest : List ℕ) (desk : DeskState) → length (with_rest guest rest desk).sessions ≡ length desk.sessions
+  pub length-rest : (rest : List ℕ) (desk : DeskState) → length (with_rest guest rest desk).sessions ≡ length desk.sessions
   length-rest rest desk = by_end (session_of guest desk).ended
     where
       by_end : (e : Option Cause) → length (rest_of_open guest rest e desk).sessions ≡ length desk.sessions
@@ -112,7 +112,7 @@ module _ (setup : Setup) (guest other : ℕ) (apart : other ≢ guest) where
   put-other : (session : Session) (desk : DeskState) → session_of other (with_session guest session desk) ≡ session_of other desk
   put-other session desk = get_or-set_other desk.sessions guest other session (fresh 0) apart
 
-  unit-other : (u : StreamUnit) (desk : DeskState) → session_of other (take_unit setup guest u desk).desk ≡ session_of other desk
+  pub unit-other : (u : StreamUnit) (desk : DeskState) → session_of other (take_unit setup guest u desk).desk ≡ session_of other desk
   unit-other u desk = by_end (session_of guest desk).ended
     where
       by_cause : (e : Effect) (c : Option Cause) → session_of other (unit_done setup guest u e c desk).desk ≡ session_of other desk
@@ -123,11 +123,11 @@ module _ (setup : Setup) (guest other : ℕ) (apart : other ≢ guest) where
       by_end None = by_cause (unit_effect setup guest u desk) (unit_effect setup guest u desk).cause
       by_end (Some c) = refl
 
-  units-other : (units : List StreamUnit) (desk : DeskState) → session_of other (take_units setup guest units desk).desk ≡ session_of other desk
+  pub units-other : (units : List StreamUnit) (desk : DeskState) → session_of other (take_units setup guest units desk).desk ≡ session_of other desk
   units-other [] desk = refl
   units-other (u ∷ units) desk = units-other units (take_unit setup guest u desk).desk ∙ unit-other u desk
 
-  bytes-other : (piece : List ℕ) (desk : DeskState) → session_of other (take_bytes setup guest piece desk).desk ≡ session_of other desk
+  pub bytes-other : (piece : List ℕ) (desk : DeskState) → session_of other (take_bytes setup guest piece desk).desk ≡ session_of other desk
   bytes-other piece desk = by_end (session_of guest desk).ended
     where
       c : Cut
@@ -141,7 +141,7 @@ module _ (setup : Setup) (guest other : ℕ) (apart : other ≢ guest) where
       by_end None = units-other c.units (with_rest guest c.rest desk) ∙ by_rest (session_of guest desk).ended
       by_end (Some cause) = refl
 
-  end-other : (input : Input) (cause : Cause) (desk : DeskState) → session_of other (end_session setup guest input cause desk).desk ≡ session_of other desk
+  pub end-other : (input : Input) (cause : Cause) (desk : DeskState) → session_of other (end_session setup guest input cause desk).desk ≡ session_of other desk
   end-other input cause desk = by_end (session_of guest desk).ended
     where
       by_end : (e : Option Cause) → session_of other (end_of_open setup guest input cause e desk).desk ≡ session_of other desk
@@ -149,7 +149,7 @@ module _ (setup : Setup) (guest other : ℕ) (apart : other ≢ guest) where
       by_end (Some c) = refl
 
 -- a change of frames ends no session
-store-ended : (guest delay page offset : ℕ) (bytes : List ℕ) (other : ℕ) (desk : DeskState) → other < length desk.sessions
+pub store-ended : (guest delay page offset : ℕ) (bytes : List ℕ) (other : ℕ) (desk : DeskState) → other < length desk.sessions
     → (session_of other (take_store guest delay page offset bytes desk).desk).ended ≡ (session_of other desk).ended
 store-ended guest delay page offset bytes other desk known = by_end (session_of guest desk).ended
   where

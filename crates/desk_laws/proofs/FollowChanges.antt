@@ -116,7 +116,7 @@ added guest row rows layers apart follow new =
 
 -- ---- a row in the place of another
 
-replaced-ids : (guest : ℕ) (new : Row) (rows : List Row) → map id_of (map (replaced_in guest new) rows) ≡ map id_of rows
+pub replaced-ids : (guest : ℕ) (new : Row) (rows : List Row) → map id_of (map (replaced_in guest new) rows) ≡ map id_of rows
 replaced-ids guest new [] = refl
 replaced-ids guest new (row ∷ rows) = by_row (is_row guest new.window row) refl (replaced-ids guest new rows)
   where

@@ -24,5 +24,6 @@ pub mod Events
 pub mod Steps
 pub mod Pieces
 pub mod Endings
+pub mod Sound
 pub mod WorkedRows
 pub mod WorkedStreams
