@@ -1,19 +1,18 @@
 -- A table's entries, as they are kept.
-use Rattle.std.proofs.Common.{◌≡◌, ◌≢◌, ◌⊎◌, inl, inr, ℕ, zero, suc, ◌+◌, ◌-◌, ◌<◌, ◌≤◌, Bool, true, false, cond, not, ◌||◌, eqb, List, [], ◌∷◌, ◌++◌, length, get_or, set, map, filter, find, replicate, sum_by, count_by, Option, Some, None, is_some, IsSome, IfSome, option_map, refl, sym, ap, ◌∙◌, subst, arith}
-use Rattle.std.proofs.lemmas.Bool.{cases_eq, cases_lt, eqb-true, eqb-false, eq-eqb, ne_eqb}
-use Rattle.std.proofs.lemmas.List.{get_or_past, get_or-set_same, get_or-set_other, length-set, length-append, length-replicate, get_or-replicate, map-append}
+use Rattle.std.proofs.Common.{◌≡◌, ◌≢◌, ◌⊎◌, inl, inr, ℕ, zero, suc, ◌+◌, ◌<◌, ◌≤◌, Bool, true, false, cond, not, ◌||◌, eqb, List, [], ◌∷◌, ◌++◌, length, get_or, set, map, filter, find, sum_by, count_by, Option, Some, None, is_some, IsSome, IfSome, option_map, refl, sym, ap, ◌∙◌, subst, arith}
+use Rattle.std.proofs.lemmas.Bool.{cases_eq, cases_lt, eqb-true, eqb-false, eq-eqb}
+use Rattle.std.proofs.lemmas.List.{get_or_past, get_or-set_same, get_or-set_other, length-set, length-append, map-append}
 use Rattle.std.proofs.lemmas.List.Sums.{sum_by-cons, sum_by-set, sum_by_push}
 use Rattle.slab.specs.Slab.{Slab, get, Updates, slab_len, with_value, ContainsKey}
 use Rattle.slab.proofs.SlabLemmas.{Updates-with_value, ContainsKey-within}
-use Rattle.desk_laws.specs.Rows.{DumpOf}
 use Rattle.desk_laws.specs.Effects.{refs_of, refs_besides, name_without}
 use Rattle.window_table.specs.declared.pane.DumpSize.{DumpSize}
 use Rattle.window_table.specs.declared.pane.Pane.{Pane}
 use Rattle.window_table.specs.declared.held.Held.{Held}
 use Rattle.window_table.specs.Entries.{Entry, entry_at, entry_with, changed_at, updated, besides_slot, removed, forgets_window, plain_rows, AreApart, with_pane, with_dump, refs_in, size_of_dump}
-use Rattle.window_table.specs.Kept.{dump_of, window_of, size_in, pane_in, entry_of, refs_kept, entry_in, entries_of, among, holds, forgets_held, IsKept}
+use Rattle.window_table.specs.Kept.{dump_of, window_of, size_in, pane_in, entry_of, entry_in, entries_of, among, holds, forgets_held, IsKept}
 use Rattle.window_table.specs.Parts.{no_lists}
-use Rattle.window_table.proofs.OnceLemmas.{OnceBy, has_number, once-from, once-of-map, find-map, found-is, find-none, among-without, among-push, sum-changed, sum-without, length-without, besides-none, besides-at}
+use Rattle.window_table.proofs.OnceLemmas.{OnceBy, once-from, once-of-map, find-map, found-is, find-none, among-without, among-push, sum-changed, sum-without, length-without, besides-none, besides-at}
 use Rattle.window_table.proofs.EntryLemmas.{apart-added, apart-updated, apart-removed, besides-rows}
 
 -- ---- the loop over the keys

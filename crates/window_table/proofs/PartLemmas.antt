@@ -1,5 +1,5 @@
 -- What an exchange of one part does to the parts.
-use Rattle.std.proofs.Common.{◌≡◌, ◌≢◌, ◌⊎◌, inl, inr, ℕ, zero, suc, ◌+◌, ◌-◌, ◌^◌, ◌<◌, ◌≤◌, List, [], ◌∷◌, ◌++◌, length, get_or, set, take, drop, map, replicate, sum_by, refl, sym, ap, ◌∙◌, subst, arith, length-take, length-drop, length-append}
+use Rattle.std.proofs.Common.{◌≡◌, ◌≢◌, ◌⊎◌, inl, inr, ℕ, zero, suc, ◌+◌, ◌-◌, ◌^◌, ◌<◌, ◌≤◌, List, [], ◌∷◌, ◌++◌, length, get_or, set, take, drop, map, replicate, sum_by, refl, sym, ap, ◌∙◌, subst, arith, length-drop, length-append}
 use Rattle.std.proofs.lemmas.List.{take-append-le, drop-append-le, take_at, drop_at, drop-take, take-take, drop-drop, length-take-le, length-map, ext_get_or, get_or-map, get_or-take, get_or-drop, get_or-set_same, get_or-set_other, length-set, append_assoc}
 use Rattle.std.proofs.lemmas.Bool.{cases_eq}
 use Rattle.std.proofs.lemmas.List.Sums.{sum_by-cons, sum_by-set}

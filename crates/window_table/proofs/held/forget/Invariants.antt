@@ -1,4 +1,3 @@
-use Rattle.std.proofs.Common.{◌≡◌}
 use Rattle.window_table.proofs.KeptLemmas.{ForgotSoFar}
 use Rattle.window_table.proofs.held.forget.Given as goal
 

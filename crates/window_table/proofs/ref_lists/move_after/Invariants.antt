@@ -1,4 +1,4 @@
-use Rattle.std.proofs.Common.{◌≡◌, ◌<◌}
+use Rattle.std.proofs.Common.{◌<◌}
 use Rattle.window_table.proofs.PartLemmas.{MovedSoFar}
 use Rattle.window_table.proofs.ref_lists.move_after.Given as goal
 
