@@ -5,7 +5,8 @@ use Rattle.std.proofs.lemmas.List.Sums.{sum_by-cons}
 use Rattle.desk_laws.specs.Rows.{row_with}
 use Rattle.desk_laws.specs.Effects.{refs_of, refs_besides}
 use Rattle.window_table.specs.Entries.{Entry, entry_at, entry_with, changed_at, updated, besides_slot, removed, forgets_window, row_of, plain_rows, AreApart}
-use Rattle.window_table.proofs.OnceLemmas.{once-from, once-to, once-push, once-filter, once-map, none-find}
+use Rattle.window_table.proofs.OnceLemmas.{once-filter, once-from, once-map, once-push, once-to}
+use Rattle.window_table.proofs.AmongLemmas.{none-find}
 
 -- ---- what keeps entries apart
 

@@ -1,4 +1,4 @@
-use Rattle.window_table.proofs.KeptLemmas.{forgot-more}
+use Rattle.window_table.proofs.ForgetLemmas.{forgot-more}
 use Rattle.window_table.proofs.held.forget.Goals as goal
 
 pub loop-key-preserved : goal.loop-key-preserved

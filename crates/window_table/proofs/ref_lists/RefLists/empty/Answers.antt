@@ -2,7 +2,7 @@ use Rattle.std.proofs.Common.{◌≡◌, ◌<◌, ◌≤◌, [], length, set, su
 use Rattle.gui_wire.specs.Words.{all_words}
 use Rattle.gui_wire.specs.Seen.{references}
 use Rattle.window_table.specs.Parts.{parts}
-use Rattle.window_table.proofs.PartLemmas.{none-fits}
+use Rattle.window_table.proofs.CutLemmas.{none-fits}
 use Rattle.window_table.proofs.ref_lists.RefLists.empty.Goals as goal
 
 pub set-requires-clause-fits : goal.set-requires-clause-fits

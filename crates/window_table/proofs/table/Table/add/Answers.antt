@@ -3,7 +3,7 @@ use Rattle.std.proofs.lemmas.List.{length-map}
 use Rattle.window_table.specs.Entries.{entry_at, entry_with, new_entry}
 use Rattle.window_table.specs.Kept.{IsKept, entry_in, entries_of}
 use Rattle.window_table.specs.declared.held.Held.{Held}
-use Rattle.window_table.proofs.KeptLemmas.{kept-add, entries-add, new-free}
+use Rattle.window_table.proofs.AddLemmas.{kept-add, entries-add, new-free}
 use Rattle.window_table.proofs.table.Table.add.Goals as goal
 
 pub invariant_of-self : goal.invariant_of-self

@@ -2,7 +2,8 @@ use Rattle.std.proofs.Common.{[], Some, IsSome, option_map, get_or, subst, sym, 
 use Rattle.slab.specs.Slab.{get}
 use Rattle.window_table.specs.Entries.{entry_at, size_of_dump}
 use Rattle.window_table.specs.Kept.{entries_of, size_in}
-use Rattle.window_table.proofs.KeptLemmas.{at-among, at-is, size-back}
+use Rattle.window_table.proofs.FindLemmas.{at-among, at-is}
+use Rattle.window_table.proofs.RefLemmas.{size-back}
 use Rattle.window_table.proofs.table.Table.dump_at.Goals as goal
 
 pub index-requires : goal.index-requires

@@ -1,7 +1,8 @@
 use Rattle.std.proofs.Common.{Some, IsSome, option_map, subst, sym, ap, refl, ◌∙◌}
 use Rattle.window_table.specs.Entries.{entry_at, updated, with_pane}
 use Rattle.window_table.specs.Kept.{entries_of, pane_in}
-use Rattle.window_table.proofs.KeptLemmas.{at-among, at-is, kept-pane, entries-pane}
+use Rattle.window_table.proofs.FindLemmas.{at-among, at-is}
+use Rattle.window_table.proofs.EditLemmas.{kept-pane, entries-pane}
 use Rattle.window_table.proofs.table.Table.get_mut.Goals as goal
 
 pub index_mut-held-requires : goal.index_mut-held-requires

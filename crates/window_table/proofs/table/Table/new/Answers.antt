@@ -1,7 +1,7 @@
 use Rattle.std.proofs.Common.{◌≡◌, [], length, sum_by, subst, sym, arith, ap}
 use Rattle.window_table.specs.Kept.{IsKept}
 use Rattle.window_table.specs.Parts.{no_lists}
-use Rattle.window_table.proofs.KeptLemmas.{kept-none, zeros-none}
+use Rattle.window_table.proofs.EmptyLemmas.{kept-none, zeros-none}
 use Rattle.window_table.proofs.table.Table.new.Goals as goal
 
 pub invariant_of-result : goal.invariant_of-result

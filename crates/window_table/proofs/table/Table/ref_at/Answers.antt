@@ -2,7 +2,8 @@ use Rattle.std.proofs.Common.{◌<◌, [], Some, IsSome, option_map, length, get
 use Rattle.slab.specs.Slab.{get}
 use Rattle.window_table.specs.Entries.{entry_at, refs_in}
 use Rattle.window_table.specs.Kept.{entry_in, entries_of, size_in}
-use Rattle.window_table.proofs.KeptLemmas.{at-among, at-is, refs-in-by}
+use Rattle.window_table.proofs.FindLemmas.{at-among, at-is}
+use Rattle.window_table.proofs.RefLemmas.{refs-in-by}
 use Rattle.window_table.proofs.table.Table.ref_at.Goals as goal
 
 pub at-requires-clause-slot : goal.at-requires-clause-slot

@@ -1,7 +1,9 @@
 use Rattle.std.proofs.Common.{◌≡◌, ◌≤◌, ◌+◌, ◌==◌, not, filter, Option, ℕ, [], Some, None, IsSome, length, set, sum_by, subst, sym, arith, ap, ◌∙◌}
 use Rattle.window_table.specs.Entries.{Entry, entry_at, removed}
 use Rattle.window_table.specs.Kept.{IsKept, entry_in, entries_of, window_of}
-use Rattle.window_table.proofs.KeptLemmas.{at-among, at-is, kept-remove, set-none-fits, entries-remove}
+use Rattle.window_table.proofs.FindLemmas.{at-among, at-is}
+use Rattle.window_table.proofs.RemoveLemmas.{kept-remove, entries-remove}
+use Rattle.window_table.proofs.RefLemmas.{set-none-fits}
 use Rattle.window_table.proofs.table.Table.remove.Goals as goal
 
 window_eq : (a b : Entry) → Some a ≡ Some b → a.window ≡ b.window

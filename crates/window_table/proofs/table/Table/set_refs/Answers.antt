@@ -6,7 +6,9 @@ use Rattle.slab.specs.Slab.{get, with_value}
 use Rattle.desk_laws.specs.Effects.{refs_besides}
 use Rattle.window_table.specs.Entries.{Entry, entry_at, updated, with_dump, plain_rows}
 use Rattle.window_table.specs.Kept.{IsKept, entry_in, entries_of, window_of}
-use Rattle.window_table.proofs.KeptLemmas.{at-among, at-is, set-fits, kept-dump, entries-dump}
+use Rattle.window_table.proofs.FindLemmas.{at-among, at-is}
+use Rattle.window_table.proofs.RefLemmas.{set-fits}
+use Rattle.window_table.proofs.EditLemmas.{kept-dump, entries-dump}
 use Rattle.window_table.proofs.table.Table.set_refs.Goals as goal
 
 pub set-requires-clause-slot : goal.set-requires-clause-slot

@@ -2,7 +2,8 @@ use Rattle.std.proofs.Common.{◌≡◌, ◌≤◌, ℕ, IfSome, is_some, find, 
 use Rattle.desk_laws.specs.Effects.{refs_besides}
 use Rattle.window_table.specs.Entries.{entry_at, entry_with, plain_rows}
 use Rattle.window_table.specs.Kept.{holds}
-use Rattle.window_table.proofs.KeptLemmas.{slot-of-window, same-entry, known-entry, besides-le}
+use Rattle.window_table.proofs.FindLemmas.{slot-of-window, same-entry, known-entry}
+use Rattle.window_table.proofs.RefLemmas.{besides-le}
 use Rattle.window_table.proofs.table.Table.slot_of.Goals as goal
 
 pub returns-clause-slot : goal.returns-clause-slot

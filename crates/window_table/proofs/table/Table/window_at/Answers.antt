@@ -1,7 +1,7 @@
 use Rattle.std.proofs.Common.{Some, IsSome, option_map, subst, sym, ap, ◌∙◌}
 use Rattle.window_table.specs.Entries.{entry_at}
 use Rattle.window_table.specs.Kept.{entries_of, window_of}
-use Rattle.window_table.proofs.KeptLemmas.{at-among, at-is}
+use Rattle.window_table.proofs.FindLemmas.{at-among, at-is}
 use Rattle.window_table.proofs.table.Table.window_at.Goals as goal
 
 pub index-requires : goal.index-requires

@@ -3,8 +3,8 @@ use Rattle.slab.specs.Slab.{get}
 use Rattle.desk_laws.specs.Effects.{refs_besides}
 use Rattle.window_table.specs.Entries.{plain_rows}
 use Rattle.window_table.specs.Kept.{entries_of, window_of, holds}
-use Rattle.window_table.proofs.KeptLemmas.{besides-known, besides-unknown}
-use Rattle.window_table.proofs.OnceLemmas.{found-is}
+use Rattle.window_table.proofs.RefLemmas.{besides-known, besides-unknown}
+use Rattle.window_table.proofs.AmongLemmas.{found-is}
 use Rattle.window_table.proofs.table.TableIds.refs_besides.Goals as goal
 
 pub count-requires : goal.count-requires
