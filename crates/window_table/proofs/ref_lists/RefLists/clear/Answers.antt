@@ -1,6 +1,7 @@
-use Rattle.std.proofs.Common.{◌≡◌, ℕ, ◌+◌, [], replicate, length, subst, sym, ap, ◌∙◌, arith}
-use Rattle.window_table.specs.Parts.{AreCuts, RefListsView, parts, no_lists}
-use Rattle.window_table.proofs.PartLemmas.{cuts-none, parts-none, length-parts}
+use Rattle.std.proofs.Common.{◌≡◌, ◌+◌, [], replicate, length, subst, sym, ap, ◌∙◌, arith}
+use Rattle.window_table.specs.Parts.{AreCuts, parts, no_lists}
+use Rattle.window_table.proofs.CutLemmas.{cuts-none, parts-none}
+use Rattle.window_table.proofs.PartLemmas.{length-parts}
 use Rattle.window_table.proofs.ref_lists.RefLists.clear.Goals as goal
 
 pub invariant_of-self : goal.invariant_of-self

@@ -1,8 +1,8 @@
-use Rattle.std.proofs.Common.{◌≡◌, ◌<◌, ◌≤◌, ◌+◌, ◌-◌, [], length, get_or, set, sum_by, subst, sym, arith, ap, ◌∙◌}
+use Rattle.std.proofs.Common.{◌≡◌, ◌<◌, ◌≤◌, ◌+◌, ◌-◌, length, get_or, set, sum_by, subst, sym, arith, ap, ◌∙◌}
 use Rattle.std.proofs.lemmas.List.{get_or_read}
 use Rattle.gui_wire.specs.Seen.{references}
-use Rattle.window_table.specs.Parts.{AreCuts, RefListsView, parts, spliced, moved_after}
-use Rattle.window_table.proofs.PartLemmas.{place-inside, exchange-from, exchange-to, exchange-room, exchange-low, exchange-high, exchange-cuts, exchange-parts}
+use Rattle.window_table.specs.Parts.{AreCuts, parts, spliced, moved_after}
+use Rattle.window_table.proofs.CutLemmas.{place-inside, exchange-from, exchange-to, exchange-room, exchange-low, exchange-high, exchange-cuts, exchange-parts}
 use Rattle.window_table.proofs.ref_lists.RefLists.set.Goals as goal
 
 pub index-from-requires : goal.index-from-requires
