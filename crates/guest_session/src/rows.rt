@@ -93,11 +93,7 @@ impl Rows {
     pub(crate) fn known(&self, window: u32) -> u32
         ensures { result ≡ id_if (is_some (row_with window self.now.rows)) window }
     {
-        if self.table.known(window) {
-            window
-        } else {
-            0
-        }
+        if self.table.known(window) { window } else { 0 }
     }
 
     // Checks a message among these windows.

@@ -74,12 +74,7 @@ fn take_word<O: Outlet>(
 
 // Takes what stands in front behind the version word: a message, a fault, or nothing whole.
 // Clipboard data stays.
-fn take_front<O: Outlet>(
-    stream: &mut InStream,
-    rows: &mut Rows,
-    minor: u32,
-    out: &mut O,
-) -> Turn
+fn take_front<O: Outlet>(stream: &mut InStream, rows: &mut Rows, minor: u32, out: &mut O) -> Turn
     requires greeted { stream.old.greeted ≡ true }
     ensures pages { rows.new.pages ≡ rows.old.pages }
     ensures turned { (sizes : Sizes) → sizes.pages ≡ rows.old.pages → (rest : List ℕ) → StandsFor stream.old rest → Turns O.takes out.old out.new
@@ -105,7 +100,13 @@ fn take_front<O: Outlet>(
         }
         Front::Bad { fault, .. } => refuse(rows, cause_of(fault)),
         Front::ClipLong { header } => {
-            refuse(rows, Cause::ClipTooLong { a: header.len, b: 0 })
+            refuse(
+                rows,
+                Cause::ClipTooLong {
+                    a: header.len,
+                    b: 0,
+                },
+            )
         }
         Front::Skipped { .. } => Turn::ClipOver,
         Front::Skipping { .. } => Turn::Wait,
