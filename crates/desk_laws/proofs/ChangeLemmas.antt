@@ -1,6 +1,6 @@
 -- A message changes the row of its own window alone.
 use Rattle.std.proofs.Common.{◌≡◌, ℕ, Bool, true, false, ◌==◌, List, [], ◌∷◌, Option, Some, None, is_some, refl, sym, ◌∙◌, ap, subst}
-use Rattle.std.specs.Prelude.{if◌then◌else◌, length, ◌+◌, ◌-◌, nat_lt}
+use Rattle.std.specs.Prelude.{if◌then◌else◌, length, ◌+◌, ◌-◌, nat_lt, ◌/◌, ◌%◌}
 use Rattle.std.proofs.lemmas.Bool.{eqb-true}
 use Rattle.gui_num.specs.declared.Rect.{Rect}
 use Rattle.gui_wire.specs.declared.Header.{Header}
@@ -10,14 +10,15 @@ use Rattle.desk_laws.specs.declared.cause.Cause.{Cause}
 use Rattle.desk_laws.specs.Sizes.{Sizes}
 use Rattle.desk_laws.specs.Ranges.{rect_in_range}
 use Rattle.desk_laws.specs.Rows.{Row, row_with, placed_at}
-use Rattle.desk_laws.specs.declared.cause.Cause.TheVariants.{PixelBudget}
+use Rattle.desk_laws.specs.declared.cause.Cause.TheVariants.{PixelBudget, BadVersion}
+use Rattle.desk_laws.specs.Stream.{StreamUnit, Word, Stop, Whole}
 use Rattle.desk_laws.specs.Override.{effective, taken_besides}
 use Rattle.desk_laws.specs.Tiles.{tiles_in_use, tiles_needed}
-use Rattle.desk_laws.specs.Effects.{Area, clipped, placed_by, mapped_row, unmapped_row, text_of, Same, Added, Replaced, Verdict, Ends, Greets, Goes, Reads, unless, first_of_causes, exists_already, too_many, bad_ref, over_budget, refs_besides, range_fault, created, id_if, isnt_zero, flagged, goes_full, flags_after, configured_row, reads, tells_place, whole_desktop, acks, message_to_window, message_to, in_range_verdict, message_verdict}
+use Rattle.desk_laws.specs.Effects.{Area, clipped, placed_by, mapped_row, unmapped_row, text_of, Same, Added, Replaced, Verdict, Ends, Greets, Goes, Reads, unless, first_of_causes, exists_already, too_many, bad_ref, over_budget, refs_besides, range_fault, created, id_if, isnt_zero, flagged, goes_full, flags_after, configured_row, reads, tells_place, whole_desktop, acks, message_to_window, message_to, in_range_verdict, message_verdict, verdict, greeting}
 use Rattle.desk_laws.specs.Following.{ChangesOne, MessagesChangeOne}
 
 -- what is known of a verdict: where it changes rows, it changes that of one window
-abbrev IsOfOne : ℕ → List Row → Verdict → Type 0
+abbrev pub IsOfOne : ℕ → List Row → Verdict → Type 0
 IsOfOne window own (Ends cause) = Unit {0}
 IsOfOne window own (Greets minor answers) = Unit {0}
 IsOfOne window own (Goes change answers) = ChangesOne window own change
@@ -144,6 +145,22 @@ of_verdict sizes guest minor own header (Some m) =
     of_unless header.window own (range_fault header.window header.len m)
     (in_range_verdict sizes guest minor own header.window header.len m)
     (of_range header.window own sizes guest minor header.len m)
+
+-- the window that a unit names
+abbrev pub window_of_unit : StreamUnit → ℕ
+window_of_unit (Word word) = 0
+window_of_unit (Stop cause) = 0
+window_of_unit (Whole header body) = header.window
+
+-- what is known of every unit
+pub of_unit : (sizes : Sizes) (guest minor : ℕ) (own : List Row) (unit : StreamUnit) → IsOfOne (window_of_unit unit) own (verdict sizes guest minor own unit)
+of_unit sizes guest minor own (Word w) = by_version (w / 65536 == 1)
+  where
+    by_version : (b : Bool) → IsOfOne 0 own (if b then Greets (w % 65536) (greeting sizes (w % 65536)) else Ends (BadVersion w 0))
+    by_version true = tt
+    by_version false = tt
+of_unit sizes guest minor own (Stop cause) = tt
+of_unit sizes guest minor own (Whole header body) = of_verdict sizes guest minor own header (reading header.kind body)
 
 pub messages-change_one : MessagesChangeOne
 messages-change_one sizes guest minor own header body change answers is =

@@ -1,6 +1,6 @@
 -- The law of cutting: a piece may come in two parts, whatever faults headers have.
 use Rattle.std.proofs.Common.{◌≡◌, ℕ, zero, suc, ◌<◌, ◌≤◌, Bool, true, false, List, [], ◌∷◌, ◌++◌, length, drop, Option, Some, None, refl, sym, ◌∙◌, ap, arith, length-drop, length-append}
-use Rattle.std.specs.Prelude.{◌||◌}
+use Rattle.std.specs.Prelude.{◌||◌, if◌then◌else◌, nat_lt, take}
 use Rattle.std.proofs.lemmas.Bool.Decides.{nat_tests}
 use Rattle.std.proofs.lemmas.List.{drop-append-le, take-append-le}
 use Rattle.gui_wire.proofs.WordLemmas.{word_at-append}
@@ -121,3 +121,50 @@ law_within f (suc n) g s t room clean =
 
 pub cuts_in_pieces : CutsInPieces
 cuts_in_pieces f g s t clean = law_within f (length s) g s t (omega arith) clean
+
+-- ---- where a fault stands in the cut
+
+front_of-append-fault : (c : Option Cause) (h : Header) (s t : List ℕ) (cause : Cause) → front_of c h s ≡ Fault cause → front_of c h (s ++ t) ≡ Fault cause
+front_of-append-fault (Some c) h s t cause e = e
+front_of-append-fault None h s t cause e = by_room (nat_lt (length s) h.len) e
+  where
+    by_room : (b : Bool) → (if b then Wait else Takes (Whole h (take h.len s)) (drop h.len s)) ≡ Fault cause → front_of None h (s ++ t) ≡ Fault cause
+    by_room true e = cc
+    by_room false e = cc
+
+faults-whole_header : (f : Faults) (s : List ℕ) (cause : Cause) → front_by f true s ≡ Fault cause → 12 ≤ length s
+faults-whole_header f s cause e = grind (arith, nat_tests)
+
+front_by-append-fault : (f : Faults) (g : Bool) (s t : List ℕ) (cause : Cause) → front_by f g s ≡ Fault cause → front_by f g (s ++ t) ≡ Fault cause
+front_by-append-fault f false s t cause e = grind (arith, nat_tests)
+front_by-append-fault f true s t cause e =
+    let h : 12 ≤ length s = faults-whole_header f s cause e in
+    let h' : 12 ≤ length (s ++ t) = omega (arith, length-append s t) in
+    front_by-whole_header f (s ++ t) h'
+    ∙ ap (λ x. front_of (f x) x (drop 12 (s ++ t))) (header_at-append s t h)
+    ∙ ap (front_of (f (header_at s)) (header_at s)) (drop-append-le 12 s t h)
+    ∙ front_of-append-fault (f (header_at s)) (header_at s) (drop 12 s) t cause (sym (front_by-whole_header f s h) ∙ e)
+
+unclean-tail : (u : StreamUnit) (units : List StreamUnit) → is_clean (u ∷ units) ≡ false → (f : Faults) (g : Bool) (s r : List ℕ) → front_by f g s ≡ Takes u r → is_clean units ≡ false
+unclean-tail (Word w) units e f g s r is = e
+unclean-tail (Whole h b) units e f g s r is = e
+unclean-tail (Stop c) units e f false s r is = grind (arith, nat_tests)
+unclean-tail (Stop c) units e f true s r is = grind (arith, nat_tests)
+
+stops-step : (f : Faults) (n : ℕ) (g : Bool) (s t : List ℕ) → length s ≤ suc n
+    → ((r : List ℕ) → length r < length s → is_clean (cut_within f n true r).units ≡ false → cut_by f true (r ++ t) ≡ cut_within f n true r)
+    → (a : Front) → front_by f g s ≡ a → is_clean (cut_within f (suc n) g s).units ≡ false → cut_by f g (s ++ t) ≡ cut_within f (suc n) g s
+stops-step f n g s t room ih Wait e = rw (e, cut_within) (λ unclean. cc)
+stops-step f n g s t room ih (Fault c) e = rw (e, cut_within) (λ unclean. cut_by-fault f g (s ++ t) c (front_by-append-fault f g s t c e))
+stops-step f n g s t room ih (Takes u r) e = rw (e, cut_within) (λ unclean.
+    cut_by-takes f g (s ++ t) u (r ++ t) (front_by-append f g s t u r e)
+    ∙ ap (unit_and u) (ih r (front_by-shorter f g s u r e) (unclean-tail u (cut_within f n true r).units unclean f g s r e)))
+
+stops-within : (f : Faults) (n : ℕ) (g : Bool) (s t : List ℕ) → length s ≤ n → is_clean (cut_within f n g s).units ≡ false → cut_by f g (s ++ t) ≡ cut_within f n g s
+stops-within f zero g s t room unclean = cc
+stops-within f (suc n) g s t room unclean =
+    stops-step f n g s t room (λ r lt. stops-within f n true r t (omega arith)) (front_by f g s) refl unclean
+
+-- bytes behind a fault change nothing
+pub cut-stops : (f : Faults) (g : Bool) (s t : List ℕ) → is_clean (cut_by f g s).units ≡ false → cut_by f g (s ++ t) ≡ cut_by f g s
+cut-stops f g s t unclean = stops-within f (length s) g s t (omega arith) unclean

@@ -1,5 +1,5 @@
 -- Each change of one window's row, and the end of a session, as the lists of the layers follow them.
-use Rattle.std.proofs.Common.{◌≡◌, ℕ, Bool, true, false, ◌&&◌, ◌||◌, not, ◌==◌, List, [], ◌∷◌, ◌++◌, map, Some, None, refl, sym, ◌∙◌, ap, subst, arith}
+use Rattle.std.proofs.Common.{◌≡◌, ℕ, Bool, true, false, ◌&&◌, ◌||◌, not, ◌==◌, List, [], ◌∷◌, ◌++◌, map, Some, None, refl, sym, ◌∙◌, ap, subst, arith, length, ◌≤◌}
 use Rattle.std.specs.Prelude.{filter, if◌then◌else◌}
 use Rattle.std.specs.List.{All}
 use Rattle.std.proofs.lemmas.List.{append-nil, map_push}
@@ -8,12 +8,14 @@ use Rattle.std.proofs.lemmas.Bool.{and_parts, eqb-true}
 use Rattle.std.proofs.lemmas.Bool.Decides.{nat_tests}
 use Rattle.desk_laws.specs.declared.row_id.RowId.{RowId}
 use Rattle.desk_laws.specs.Rows.{Row, id_of, same_row, is_row, mine, row_with, row_at}
-use Rattle.desk_laws.specs.Layers.{Layers, no_layers, is_in, are_apart, followed}
+use Rattle.desk_laws.specs.Layers.{Layers, no_layers, is_in, are_apart, HaveSame, layer_of, followed}
 use Rattle.desk_laws.specs.Effects.{Change, Same, Added, Replaced, Removed, Cleared, changed, replaced_in, of_guest, forgets, name_without}
 use Rattle.desk_laws.specs.Following.{LayersFollow, FollowsRow, ListsFollowOne, ListsFollowEnd}
+use Rattle.std.proofs.lemmas.List.Folds.{list_any-append}
+use Rattle.desk_laws.proofs.LayerLemmas.{layer-stays}
 use Rattle.desk_laws.proofs.RowLemmas.{apart-push}
-use Rattle.desk_laws.proofs.IdLemmas.{filter-same, filter-empty}
-use Rattle.desk_laws.proofs.FollowLemmas.{Test, ids_where, passes, is_normal, is_over, is_listed, rows-apart, ids-have, layer-normal, layer-over, is_row-same, lists-follow, normal-has, over-has, focus-has, follows-row, stay, come, same-lists}
+use Rattle.desk_laws.proofs.IdLemmas.{filter-same, filter-whole, filter-empty, length-same}
+use Rattle.desk_laws.proofs.FollowLemmas.{Test, come, focus-has, follows-row, ids-apart, ids-have, ids_where, is_listed, is_normal, is_over, is_row-same, layer-normal, layer-over, lists-follow, normal-has, over-has, passes, rows-apart, same-lists, stay}
 
 abbrev the : ℕ → ℕ → RowId
 the guest window = record { guest = guest; window = window }
@@ -114,7 +116,7 @@ added guest row rows layers apart follow new =
 
 -- ---- a row in the place of another
 
-replaced-ids : (guest : ℕ) (new : Row) (rows : List Row) → map id_of (map (replaced_in guest new) rows) ≡ map id_of rows
+pub replaced-ids : (guest : ℕ) (new : Row) (rows : List Row) → map id_of (map (replaced_in guest new) rows) ≡ map id_of rows
 replaced-ids guest new [] = refl
 replaced-ids guest new (row ∷ rows) = by_row (is_row guest new.window row) refl (replaced-ids guest new rows)
   where
@@ -322,3 +324,67 @@ none-follow = record {
   normal = λ id. refl;
   over = λ id. refl;
 }
+
+-- ---- lists that have their rows
+
+stay-all : (ids members : List RowId) → HaveSame members ids → stay ids members ≡ members
+stay-all ids members same = filter-whole (is_in ids) members (λ x h. sym (same x) ∙ h)
+
+come-none : (ids members : List RowId) → HaveSame members ids → come ids members ≡ []
+come-none ids members same = filter-empty (λ x. not (is_in members x)) ids (λ x h. ap not (same x ∙ h))
+
+-- what is listed is in one of the layers
+ids-either : (rows : List Row) (id : RowId) → is_in (ids_where is_listed rows) id ≡ (is_in (ids_where is_normal rows) id || is_in (ids_where is_over rows) id)
+ids-either [] id = refl
+ids-either (row ∷ rows) id = by_tests row.mapped row.over (ids-either rows id)
+  where
+    swapped : (s n o : Bool) → (s || (n || o)) ≡ (n || (s || o))
+    swapped true true o = refl
+    swapped true false o = refl
+    swapped false n o = refl
+
+    grouped : (s n o : Bool) → (s || (n || o)) ≡ ((s || n) || o)
+    grouped true n o = refl
+    grouped false n o = refl
+
+    by_tests : (m o : Bool) → is_in (ids_where is_listed rows) id ≡ (is_in (ids_where is_normal rows) id || is_in (ids_where is_over rows) id)
+        → is_in (ids_where is_listed (record row { mapped = m; over = o } ∷ rows)) id
+        ≡ (is_in (ids_where is_normal (record row { mapped = m; over = o } ∷ rows)) id || is_in (ids_where is_over (record row { mapped = m; over = o } ∷ rows)) id)
+    by_tests true true e =
+        ap (λ v. same_row id (id_of row) || v) e
+        ∙ swapped (same_row id (id_of row)) (is_in (ids_where is_normal rows) id) (is_in (ids_where is_over rows) id)
+    by_tests true false e =
+        ap (λ v. same_row id (id_of row) || v) e
+        ∙ grouped (same_row id (id_of row)) (is_in (ids_where is_normal rows) id) (is_in (ids_where is_over rows) id)
+    by_tests false o e = e
+
+module _ (rows : List Row) (layers : Layers) (follow : LayersFollow rows layers) where
+  focus-listed : HaveSame layers.focus (ids_where is_listed rows)
+  focus-listed = λ id.
+      follow.once.same id ∙ list_any-append (same_row id) layers.normal layers.over
+      ∙ ap (λ v. v || is_in layers.over id) (follow.normal id ∙ ap (λ ids. is_in ids id) (layer-normal rows))
+      ∙ ap (λ v. is_in (ids_where is_normal rows) id || v) (follow.over id ∙ ap (λ ids. is_in ids id) (layer-over rows))
+      ∙ sym (ids-either rows id)
+
+  -- they stay as they are
+  pub followed-same : followed rows layers ≡ layers
+  followed-same =
+      same-lists _ _ _ _ _ _ (layer-stays (layer_of false rows) layers.normal follow.normal) (layer-stays (layer_of true rows) layers.over follow.over)
+      (ap (λ xs. xs ++ stay (ids_where is_listed rows) layers.focus) (come-none (ids_where is_listed rows) layers.focus focus-listed)
+      ∙ stay-all (ids_where is_listed rows) layers.focus focus-listed)
+
+  -- no more than there are rows
+  pub follow-few : are_apart (map id_of rows) ≡ true → length layers.focus ≤ length rows
+  follow-few apart =
+      let same : length layers.focus ≡ length (ids_where is_listed rows) =
+      length-same layers.focus (ids_where is_listed rows) follow.once.listed_once (ids-apart is_listed rows apart) focus-listed in
+      omega (arith, few-pass rows)
+    where
+      few-pass : (rs : List Row) → length (ids_where is_listed rs) ≤ length rs
+      few-pass [] = omega arith
+      few-pass (r ∷ rs) = by_test r.mapped (few-pass rs)
+        where
+          by_test : (b : Bool) → length (ids_where is_listed rs) ≤ length rs
+              → length (map id_of (if b then r ∷ filter (λ x. is_listed x.mapped x.over) rs else filter (λ x. is_listed x.mapped x.over) rs)) ≤ length (r ∷ rs)
+          by_test true h = omega arith
+          by_test false h = omega arith

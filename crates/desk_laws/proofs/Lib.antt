@@ -1,11 +1,15 @@
 pub mod GridLemmas
+pub mod EndLemmas
 pub mod Cutting
 pub mod CheckLemmas
 pub mod CuttingLemmas
 pub mod LayerLemmas
+pub mod OtherLemmas
 pub mod PaintLemmas
+pub mod PieceLemmas
 pub mod RowLemmas
 pub mod RuleLemmas
+pub mod SoundLemmas
 pub mod UnitLemmas
 pub mod VerdictLemmas
 pub mod IdLemmas

@@ -1,5 +1,5 @@
 -- What a message changes of a guest's rows, and how the lists of the layers follow it.
-use Rattle.std.specs.Prelude.{◌≡◌, ℕ, true, false, not, ◌==◌, List, map, filter, Option, Some, None, is_some, if◌then◌else◌}
+use Rattle.std.specs.Prelude.{◌≡◌, ◌≢◌, ℕ, true, false, not, ◌==◌, List, map, filter, Option, Some, None, is_some, if◌then◌else◌}
 use Rattle.gui_wire.specs.declared.Header.{Header}
 use Rattle.desk_laws.specs.declared.row_id.RowId.{RowId}
 use Rattle.desk_laws.specs.Sizes.{Sizes}
@@ -10,7 +10,7 @@ use Rattle.desk_laws.specs.Effects.{Change, Same, Added, Replaced, Removed, Clea
 
 -- ---- a change of one window
 
--- a change is of this window's row alone
+-- a change is of this window's row; where it goes, rows that named it name 0, and else no other row changes
 abbrev pub IsChangeOf : ℕ → Change → Type 0
 IsChangeOf window Same = Unit {0}
 IsChangeOf window (Added row) = row.window ≡ window
@@ -31,11 +31,16 @@ pub record ChangesOne (window : ℕ) (own : List Row) (change : Change) : Type 0
   pub alone : IsChangeOf window change
   pub from : IsChangeFrom (row_with window own) change
 
--- a message changes the row of its own window alone
+-- what a message changes is the row of its own window
 abbrev pub MessagesChangeOne : Type 0
 MessagesChangeOne =
     (sizes : Sizes) (guest minor : ℕ) (own : List Row) (header : Header) (body : List ℕ) (change : Change) (answers : List (List ℕ)) →
     verdict sizes guest minor own (Whole header body) ≡ Goes change answers → ChangesOne header.window own change
+
+-- a change of one guest's rows leaves those of the others
+abbrev pub OthersKeepRows : Type 0
+OthersKeepRows =
+    (guest other : ℕ) (change : Change) (rows : List Row) → other ≢ guest → mine other (changed guest change rows) ≡ mine other rows
 
 -- ---- the lists
 

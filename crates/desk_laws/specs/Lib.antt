@@ -22,4 +22,8 @@ pub mod State
 pub mod Settle
 pub mod Events
 pub mod Steps
+pub mod Pieces
+pub mod Endings
+pub mod Sound
 pub mod WorkedRows
+pub mod WorkedStreams

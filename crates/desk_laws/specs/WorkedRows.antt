@@ -64,22 +64,25 @@ label = 0xff0000
 unfoldable pub blank : ℕ
 blank = 0x808080
 
--- the empty desktop: a black picture, and two items
-abbrev pub EmptyDesktop : Type 0
-EmptyDesktop = posts (just item.Snap ∷ just item.End ∷ [])
-    ≡ Picture 8 6 (replicate 48 0) ∷ Summary (record { items = 2; messages = 0; glances = 0 }) ∷ []
-
--- one window: its ring of twelve pixels in the label colour around four that were never read
-abbrev pub OneWindow : Type 0
-OneWindow = posts (bytes (window_at 2 2) ∷ just item.Snap ∷ just item.End ∷ [])
-    ≡ greeting ++ Picture 8 6 (
+-- the picture of one window at (2, 2): its ring of twelve pixels in the label colour around four that were never read
+unfoldable pub ring : List ℕ
+ring =
     background ∷ background ∷ background ∷ background ∷ background ∷ background ∷ background ∷ background
     ∷ background ∷ label ∷ label ∷ label ∷ label ∷ background ∷ background ∷ background
     ∷ background ∷ label ∷ blank ∷ blank ∷ label ∷ background ∷ background ∷ background
     ∷ background ∷ label ∷ blank ∷ blank ∷ label ∷ background ∷ background ∷ background
     ∷ background ∷ label ∷ label ∷ label ∷ label ∷ background ∷ background ∷ background
-    ∷ background ∷ background ∷ background ∷ background ∷ background ∷ background ∷ background ∷ background ∷ [])
-    ∷ Summary (record { items = 3; messages = 2; glances = 0 }) ∷ []
+    ∷ background ∷ background ∷ background ∷ background ∷ background ∷ background ∷ background ∷ background ∷ []
+
+-- the empty desktop: a black picture, and two items
+abbrev pub EmptyDesktop : Type 0
+EmptyDesktop = posts (just item.Snap ∷ just item.End ∷ [])
+    ≡ Picture 8 6 (replicate 48 0) ∷ Summary (record { items = 2; messages = 0; glances = 0 }) ∷ []
+
+-- one window
+abbrev pub OneWindow : Type 0
+OneWindow = posts (bytes (window_at 2 2) ∷ just item.Snap ∷ just item.End ∷ [])
+    ≡ greeting ++ Picture 8 6 ring ∷ Summary (record { items = 3; messages = 2; glances = 0 }) ∷ []
 
 -- a window off the corner, at (-1, -1): one pixel of content at (0, 0), three of the ring around it
 abbrev pub WindowOffTheCorner : Type 0

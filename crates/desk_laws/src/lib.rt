@@ -21,7 +21,9 @@ pub use checks::law_first_cause;
 pub use ids::Ids;
 pub use input::GIn;
 pub use item::Item;
-pub use law::{law_of_changes, law_of_cutting};
+pub use law::{
+    law_ended_session, law_of_changes, law_of_cutting, law_of_pieces, law_of_sound_states,
+};
 pub use row_id::RowId;
 pub use setup::{GuestSetup, Guests, Name, Setup};
-pub use worked::worked_rows;
+pub use worked::{worked_rows, worked_streams};

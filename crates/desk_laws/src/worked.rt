@@ -1,5 +1,6 @@
 // Small runs that the definitions have to give.
 ghost use Rattle.desk_laws.specs.WorkedRows.{EmptyDesktop, OneWindow, WindowOffTheCorner, WindowCreatedTwice};
+ghost use Rattle.desk_laws.specs.WorkedStreams.{OneByteAtATime, WidthOutOfRange, WidthBroughtIntoRange, ReferencePastThePages, DumpAcknowledged, DumpOfAnOldAgent, DumpOfSixteenBits, WrongVersion, EarlyEnd, ClipboardTooLong, WindowLimit};
 
 /// The definitions give the small runs that were worked by hand. It does nothing.
 pub fn worked_rows()
@@ -7,4 +8,19 @@ pub fn worked_rows()
     ensures one_window { OneWindow }
     ensures window_off_the_corner { WindowOffTheCorner }
     ensures window_created_twice { WindowCreatedTwice }
+{}
+
+/// The definitions give the small streams that were worked by hand. It does nothing.
+pub fn worked_streams()
+    ensures one_byte_at_a_time { OneByteAtATime }
+    ensures width_out_of_range { WidthOutOfRange }
+    ensures width_brought_into_range { WidthBroughtIntoRange }
+    ensures reference_past_the_pages { ReferencePastThePages }
+    ensures dump_acknowledged { DumpAcknowledged }
+    ensures dump_of_an_old_agent { DumpOfAnOldAgent }
+    ensures dump_of_sixteen_bits { DumpOfSixteenBits }
+    ensures wrong_version { WrongVersion }
+    ensures early_end { EarlyEnd }
+    ensures clipboard_too_long { ClipboardTooLong }
+    ensures window_limit { WindowLimit }
 {}

@@ -7,6 +7,7 @@ use Rattle.io_ports.specs.declared.feed.RecordKind.TheVariants as kinds
 use Rattle.io_ports.specs.declared.feed.FeedFault.{FeedFault}
 use Rattle.io_ports.specs.declared.feed.FeedFault.TheVariants as feeds
 use Rattle.io_ports.specs.Feeds.{Answer}
+use Rattle.desk_laws.specs.declared.item.Item.{Item}
 use Rattle.desk_laws.specs.declared.item.Item.TheVariants as items
 use Rattle.desk_laws.specs.Items.{FedItem}
 use Rattle.desk_laws.specs.Frames.{counted}
@@ -14,9 +15,11 @@ use Rattle.guid_main.specs.declared.part.PartRead.{PartRead}
 use Rattle.guid_main.specs.declared.part.PartRead.TheVariants as parts
 use Rattle.guid_main.specs.Config.{fault, number_at}
 use Rattle.guid_main.specs.Parts.{Fills}
-use Rattle.guid_main.specs.ItemParts.{no_item, item_size, Finds}
+use Rattle.guid_main.specs.declared.replay_feed.SessionEnd.{SessionEnd}
+use Rattle.guid_main.specs.declared.replay_feed.SessionEnd.TheVariants as ends
+use Rattle.guid_main.specs.ItemParts.{no_item, item_size, item_of_end, Finds}
 use Rattle.guid_main.specs.Readings.{Took}
-use Rattle.guid_main.specs.RecordGrammar.{Items, Faulty, alone, bytes_at, item_at, nothing_but, item_and, items_step, items_within, items_from}
+use Rattle.guid_main.specs.RecordGrammar.{Items, Faulty, alone, bytes_at, guest_at, item_at, nothing_but, item_and, items_step, items_within, items_from}
 use Rattle.guid_main.proofs.ReaderLemmas.{took_on, front_is, back_is, seam}
 
 -- so many bytes more were read, and behind them it is found thus
@@ -81,8 +84,10 @@ fault_behind find next before after at kind e bytes left is wrong first =
 abbrev pub behind_kind : ℕ → ℕ → List ℕ → Result (FedItem × ℕ) RecordKind
 behind_kind guests kind rest =
     if kind == 2 then bytes_at guests rest
+    else if kind == 3 then guest_at items.Closed guests rest
     else if kind == 9 then Ok (alone items.Snap, 1)
     else if kind == 10 then Ok (alone items.End, 1)
+    else if kind == 11 then guest_at items.Lost guests rest
     else Err kinds.Kind
 
 pub kind_short : (guests : ℕ) (xs : List ℕ) → length xs < 1 → item_at guests xs ≡ Err kinds.Short
@@ -103,8 +108,43 @@ kind_snap guests kind is tail = ap (λ (k : ℕ). behind_kind guests k tail) is
 pub kind_end : (guests kind : ℕ) → kind ≡ 10 → (tail : List ℕ) → behind_kind guests kind tail ≡ Ok (alone items.End, 1)
 kind_end guests kind is tail = ap (λ (k : ℕ). behind_kind guests k tail) is
 
-pub kind_other : (guests kind : ℕ) → (kind ≡ 2 → ⊥) → (kind ≡ 9 → ⊥) → (kind ≡ 10 → ⊥) → (tail : List ℕ) → behind_kind guests kind tail ≡ Err kinds.Kind
-kind_other guests kind not_bytes not_snap not_end tail = grind (arith, nat_tests)
+pub kind_closed : (guests kind : ℕ) → kind ≡ 3 → (tail : List ℕ) → behind_kind guests kind tail ≡ guest_at items.Closed guests tail
+kind_closed guests kind is tail = ap (λ (k : ℕ). behind_kind guests k tail) is
+
+pub kind_lost : (guests kind : ℕ) → kind ≡ 11 → (tail : List ℕ) → behind_kind guests kind tail ≡ guest_at items.Lost guests tail
+kind_lost guests kind is tail = ap (λ (k : ℕ). behind_kind guests k tail) is
+
+-- the kind is none of those that there are
+pub record IsUnknownKind (kind : ℕ) : Type 0 where
+  pub not_bytes : kind ≡ 2 → ⊥
+  pub not_closed : kind ≡ 3 → ⊥
+  pub not_snap : kind ≡ 9 → ⊥
+  pub not_end : kind ≡ 10 → ⊥
+  pub not_lost : kind ≡ 11 → ⊥
+
+pub kind_other : (guests kind : ℕ) → IsUnknownKind kind → (tail : List ℕ) → behind_kind guests kind tail ≡ Err kinds.Kind
+kind_other guests kind unknown tail = grind (arith, nat_tests, unknown.not_bytes, unknown.not_closed, unknown.not_snap, unknown.not_end, unknown.not_lost)
+
+-- ---- the guest of an item without bytes
+
+pub guest_short : (made : ℕ → Item) (guests : ℕ) (xs : List ℕ) → length xs < 1 → guest_at made guests xs ≡ Err kinds.Short
+guest_short made guests [] short = refl
+guest_short made guests (g ∷ xs) short = absurd (omega arith)
+
+-- an item that ends a session takes its kind and its guest
+pub end_size : (end : SessionEnd) (guest len : ℕ) → item_size (item_of_end end guest) len ≡ 2
+end_size ends.Closed guest len = refl
+end_size ends.Lost guest len = refl
+
+-- the guest is not one of the record's
+pub guest_range : (made : ℕ → Item) (guests : ℕ) (fixed : List ℕ) → length fixed ≡ 1 → guests ≤ slice_index fixed 0 → (tail : List ℕ) → guest_at made guests (fixed ++ tail) ≡ Err kinds.Range
+guest_range made guests [] is over tail = absurd (omega arith)
+guest_range made guests (g ∷ fixed) is over tail = let test : nat_lt g guests ≡ false = grind (arith, nat_tests) in rw test refl
+
+-- the guest is one of the record's
+pub guest_found : (made : ℕ → Item) (guests : ℕ) (fixed : List ℕ) → length fixed ≡ 1 → slice_index fixed 0 < guests → (tail : List ℕ) → guest_at made guests (fixed ++ tail) ≡ Ok (alone (made (slice_index fixed 0)), 2)
+guest_found made guests [] is lt tail = absurd (omega arith)
+guest_found made guests (g ∷ fixed) is lt tail = let test : nat_lt g guests ≡ true = grind (arith, nat_tests) in rw test refl
 
 -- what stands behind the guest and the length of a piece
 abbrev pub piece_at : ℕ → ℕ → ℕ → List ℕ → Result (FedItem × ℕ) RecordKind
@@ -182,12 +222,14 @@ sized_bytes : (a : Bool) (r : Result (FedItem × ℕ) RecordKind) → 1 ≤ size
 sized_bytes true r some = omega arith
 sized_bytes false r some = some
 
-sized_kind : (a b d : Bool) (r : Result (FedItem × ℕ) RecordKind) → 1 ≤ sized r
-    → 1 ≤ sized (if a then r else if b then Ok (alone items.Snap, 1) else if d then Ok (alone items.End, 1) else Err kinds.Kind)
-sized_kind true b d r some = some
-sized_kind false true d r some = omega arith
-sized_kind false false true r some = omega arith
-sized_kind false false false r some = omega arith
+-- a test whose both outcomes take a byte
+sized_if : (a : Bool) (r s : Result (FedItem × ℕ) RecordKind) → 1 ≤ sized r → 1 ≤ sized s → 1 ≤ sized (if a then r else s)
+sized_if true r s one other = one
+sized_if false r s one other = other
+
+guest_sized : (made : ℕ → Item) (guests : ℕ) (rest : List ℕ) → 1 ≤ sized (guest_at made guests rest)
+guest_sized made guests [] = omega arith
+guest_sized made guests (g ∷ rest) = sized_if (nat_lt g guests) (Ok (alone (made g), 2)) (Err kinds.Range) (omega arith) (omega arith)
 
 bytes_sized : (guests : ℕ) (rest : List ℕ) → 1 ≤ sized (bytes_at guests rest)
 bytes_sized guests rest =
@@ -204,7 +246,12 @@ takes_some : (guests size : ℕ) (bytes : List ℕ) (given : FedItem) → item_a
 takes_some guests size [] given is = absurd (cc)
 takes_some guests size (kind ∷ rest) given is =
     let same : sized (item_at guests (kind ∷ rest)) ≡ size = ap sized is in
-    let least : 1 ≤ sized (item_at guests (kind ∷ rest)) = sized_kind (kind == 2) (kind == 9) (kind == 10) (bytes_at guests rest) (bytes_sized guests rest) in
+    let least : 1 ≤ sized (item_at guests (kind ∷ rest)) =
+    sized_if (kind == 2) (bytes_at guests rest) _ (bytes_sized guests rest)
+    (sized_if (kind == 3) (guest_at items.Closed guests rest) _ (guest_sized items.Closed guests rest)
+    (sized_if (kind == 9) (Ok (alone items.Snap, 1)) _ (omega arith)
+    (sized_if (kind == 10) (Ok (alone items.End, 1)) _ (omega arith)
+    (sized_if (kind == 11) (guest_at items.Lost guests rest) (Err kinds.Kind) (guest_sized items.Lost guests rest) (omega arith))))) in
     record { some = subst (λ (n : ℕ). 1 ≤ n) same least; there = omega arith }
 
 step_same : (at : ℕ) (r : Result (FedItem × ℕ) RecordKind) (f g : ℕ → Items) → ((given : FedItem) (size : ℕ) → r ≡ Ok (given, size) → f size ≡ g size) → items_step at r f ≡ items_step at r g

@@ -9,6 +9,8 @@ use Rattle.desk_laws.specs.declared.item.Item.{Item}
 use Rattle.desk_laws.specs.declared.item.Item.TheVariants as items
 use Rattle.desk_laws.specs.Items.{FedItem}
 use Rattle.guid_main.specs.declared.part.PartRead.{PartRead}
+use Rattle.guid_main.specs.declared.replay_feed.SessionEnd.{SessionEnd}
+use Rattle.guid_main.specs.declared.replay_feed.SessionEnd.TheVariants as ends
 use Rattle.guid_main.specs.declared.part.PartRead.TheVariants as parts
 use Rattle.guid_main.specs.Config.{fault}
 use Rattle.guid_main.specs.Readings.{Took}
@@ -21,7 +23,14 @@ no_item at parts.Short = feeds.Bad (fault at kinds.Short)
 -- how many bytes an item takes in a record with a piece of this length
 abbrev pub item_size : Item → ℕ → ℕ
 item_size (items.Bytes guest) len = 6 + len
+item_size (items.Closed guest) len = 2
+item_size (items.Lost guest) len = 2
 item_size item len = 1
+
+-- the item that ends a session
+abbrev pub item_of_end : SessionEnd → ℕ → Item
+item_of_end ends.Closed guest = items.Closed guest
+item_of_end ends.Lost guest = items.Lost guest
 
 -- One item at this offset, of which so many bytes were read before: what was taken spells it, whatever
 -- follows, or the record has the fault; at a failed read what was taken is no whole item.

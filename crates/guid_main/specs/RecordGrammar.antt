@@ -36,13 +36,20 @@ bytes_at guests rest =
     else Ok (record { item = items.Bytes guest; piece = take size (drop 5 rest) }, 6 + size))
     else Err kinds.Range
 
+-- an item of a guest that comes without bytes, from behind the kind byte: the guest
+abbrev pub guest_at : (ℕ → Item) → ℕ → List ℕ → Result (FedItem × ℕ) RecordKind
+guest_at made guests [] = Err kinds.Short
+guest_at made guests (guest ∷ rest) = if nat_lt guest guests then Ok (alone (made guest), 2) else Err kinds.Range
+
 -- the item at the front, and how many bytes it takes
 abbrev pub item_at : ℕ → List ℕ → Result (FedItem × ℕ) RecordKind
 item_at guests [] = Err kinds.Short
 item_at guests (kind ∷ rest) =
     if kind == 2 then bytes_at guests rest
+    else if kind == 3 then guest_at items.Closed guests rest
     else if kind == 9 then Ok (alone items.Snap, 1)
     else if kind == 10 then Ok (alone items.End, 1)
+    else if kind == 11 then guest_at items.Lost guests rest
     else Err kinds.Kind
 
 -- these items, and then the others

@@ -4,6 +4,8 @@
 mod config;
 mod desk_run;
 mod item_writer;
+#[cfg(test)]
+mod message_tests;
 mod outcome;
 mod part;
 mod picture_writer;

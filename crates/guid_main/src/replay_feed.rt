@@ -6,8 +6,8 @@ ghost use Rattle.io_ports.specs.Feeds.{answer_of, given_after};
 ghost use Rattle.desk_laws.specs.Rules.{Fits};
 ghost use Rattle.desk_laws.specs.Frames.{counted};
 ghost use Rattle.desk_laws.specs.Items.{FitsItem};
-ghost use Rattle.guid_main.specs.RecordGrammar.{bytes_at, item_at};
-ghost use Rattle.guid_main.specs.ItemParts.{no_item, item_size, Finds};
+ghost use Rattle.guid_main.specs.RecordGrammar.{bytes_at, guest_at, item_at};
+ghost use Rattle.guid_main.specs.ItemParts.{no_item, item_size, item_of_end, Finds};
 ghost use Rattle.guid_main.specs.FeedReadings.{state_after, coming_in};
 ghost use Rattle.guid_main.specs.FeedRuns.{FeedGives};
 
@@ -62,6 +62,7 @@ fn item_size(next: &Next) -> u64
 {
     match next.item {
         Item::Bytes { .. } => 6 + next.len as u64,
+        Item::Closed { .. } | Item::Lost { .. } => 2,
         _ => 1,
     }
 }
@@ -127,6 +128,51 @@ fn read_bytes<S: Source>(
     }
 }
 
+// What ends a session from outside: its guest closed the stream, or the link to it failed.
+#[derive(Clone, Copy)]
+enum SessionEnd {
+    Closed,
+    Lost,
+}
+
+fn item_of_end(end: SessionEnd, guest: u32) -> Item
+    ensures { result ≡ item_of_end end guest }
+{
+    match end {
+        SessionEnd::Closed => Item::Closed { guest },
+        SessionEnd::Lost => Item::Lost { guest },
+    }
+}
+
+// Reads the guest whose session ends from behind the kind byte, which has this offset.
+fn read_end<S: Source>(
+    source: &mut S,
+    guests: u32,
+    at: u64,
+    end: SessionEnd,
+) -> Result<Next, FeedFault>
+    ensures finds { (room : List ℕ) → Told (S.left source.old) (λ bytes. Finds (guest_at (item_of_end end) guests) 1 at (answer_of result room) bytes (S.left source.new)) }
+    ensures range { IfOk result (λ n. (pages : ℕ) → FitsItem guests pages n.item n.len) }
+    ensures small { IfOk result (λ n. n.len ≤ 65536) }
+    ensures keeps { S.keeps source.old source.new }
+    ensures later { S.faults source.old ≤ S.faults source.new }
+    ensures failed { IsErrOf result FeedFault.Failed → Rose (S.faults source.old) (S.faults source.new) }
+{
+    let mut fixed = [0u8; 1];
+    match fill_whole(source, &mut fixed) {
+        Ok(()) => {}
+        Err(part) => return Err(no_item(at, part)),
+    }
+    let guest = fixed[0] as u32;
+    if guest >= guests {
+        return Err(bad(at, RecordKind::Range));
+    }
+    Ok(Next {
+        item: item_of_end(end, guest),
+        len: 0,
+    })
+}
+
 // Reads the item at this offset.
 fn read_item<S: Source>(
     source: &mut S,
@@ -149,6 +195,7 @@ fn read_item<S: Source>(
     }
     match kind[0] {
         2 => read_bytes(source, guests, at, room),
+        3 => read_end(source, guests, at, SessionEnd::Closed),
         9 => Ok(Next {
             item: Item::Snap,
             len: 0,
@@ -157,6 +204,7 @@ fn read_item<S: Source>(
             item: Item::End,
             len: 0,
         }),
+        11 => read_end(source, guests, at, SessionEnd::Lost),
         _ => Err(bad(at, RecordKind::Kind)),
     }
 }

@@ -80,6 +80,13 @@ impl InStream {
         skipped + self.buffer.append(&piece[skipped..])
     }
 
+    /// Whether the version word was let go.
+    pub fn greeted(&self) -> bool
+        ensures { result ≡ self.now.greeted }
+    {
+        self.greeted
+    }
+
     /// The version word at the front, `None` exactly where fewer than four bytes are held.
     pub fn word(&self) -> Option<u32>
         ensures { (rest : List ℕ) → StandsFor self.now rest → result ≡ word_shown rest }

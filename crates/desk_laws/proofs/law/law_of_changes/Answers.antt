@@ -1,4 +1,5 @@
 use Rattle.desk_laws.proofs.ChangeLemmas.{messages-change_one}
+use Rattle.desk_laws.proofs.OtherLemmas.{others-keep_rows}
 use Rattle.desk_laws.proofs.FollowChanges.{lists-follow_one, lists-follow_end}
 use Rattle.desk_laws.proofs.law.law_of_changes.Goals as goal
 
@@ -10,3 +11,6 @@ returns-clause-one_row c = lists-follow_one
 
 pub returns-clause-an_end : goal.returns-clause-an_end
 returns-clause-an_end c = lists-follow_end
+
+pub returns-clause-others : goal.returns-clause-others
+returns-clause-others c = others-keep_rows

@@ -1,5 +1,5 @@
 use Rattle.std.proofs.Common.{refl}
-use Rattle.desk_laws.specs.WorkedRows.{red, small_desktop, bytes, just, version, window_at, posts, greeting, background, label, blank}
+use Rattle.desk_laws.specs.WorkedRows.{red, small_desktop, bytes, just, version, window_at, posts, greeting, background, label, blank, ring}
 use Rattle.desk_laws.proofs.worked.worked_rows.Goals as goal
 
 pub returns-clause-empty_desktop : goal.returns-clause-empty_desktop
@@ -7,7 +7,7 @@ unfolding red small_desktop bytes just version window_at posts greeting backgrou
 returns-clause-empty_desktop c = refl
 
 pub returns-clause-one_window : goal.returns-clause-one_window
-unfolding red small_desktop bytes just version window_at posts greeting background label blank
+unfolding red small_desktop bytes just version window_at posts greeting background label blank ring
 returns-clause-one_window c = refl
 
 pub returns-clause-window_off_the_corner : goal.returns-clause-window_off_the_corner

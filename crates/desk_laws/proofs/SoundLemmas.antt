@@ -1,0 +1,245 @@
+-- Every state that a run reaches is sound.
+use Rattle.std.proofs.Common.{◌≡◌, ◌≢◌, ℕ, ◌<◌, Bool, true, false, ◌==◌, List, [], ◌∷◌, ◌++◌, length, map, Option, Some, None, refl, sym, ◌∙◌, ap, subst, length-set}
+use Rattle.std.specs.List.{All}
+use Rattle.std.proofs.lemmas.Bool.{eqb-true, eqb-false}
+use Rattle.std.proofs.lemmas.List.Elements.{All-head, All-tail}
+use Rattle.desk_laws.specs.declared.setup.Setup.{Setup}
+use Rattle.desk_laws.specs.declared.cause.Cause.{Cause}
+use Rattle.desk_laws.specs.declared.cause.Cause.TheVariants.{StreamEnded, LinkFailed}
+use Rattle.desk_laws.specs.declared.item.Item.TheVariants as item
+use Rattle.desk_laws.specs.Sizes.{sizes_of}
+use Rattle.desk_laws.specs.Stage.{takes_item}
+use Rattle.desk_laws.specs.Items.{FedItem}
+use Rattle.desk_laws.specs.Stream.{StreamUnit, Cut, cut}
+use Rattle.desk_laws.specs.Rows.{Row, id_of, mine}
+use Rattle.desk_laws.specs.Layers.{are_apart}
+use Rattle.desk_laws.specs.Scene.{Scene, Input, Took, Closing, Losing}
+use Rattle.desk_laws.specs.Frames.{Loads, load_all}
+use Rattle.desk_laws.specs.Effects.{Verdict, Ends, Greets, Goes, Reads, verdict, carried_out, changed, Cleared, Replaced, drawn_row, frame_places, points}
+use Rattle.desk_laws.specs.State.{DeskState, StepOutcome, session_of, opening, count_item}
+use Rattle.desk_laws.specs.Steps.{step, run, take_unit, take_units, take_bytes, end_session, unit_done, unit_of_open, ends, with_rest, rest_of_open, bytes_of_open, end_of_open}
+use Rattle.desk_laws.specs.Following.{LayersFollow}
+use Rattle.desk_laws.specs.Endings.{IsGone}
+use Rattle.desk_laws.specs.Sound.{IsSound, OpeningIsSound, StepsKeepSound, RunsAreSound}
+use Rattle.desk_laws.proofs.ChangeLemmas.{IsOfOne, window_of_unit, of_unit}
+use Rattle.desk_laws.proofs.FollowLemmas.{lists-follow}
+use Rattle.desk_laws.proofs.FollowChanges.{lists-follow_one, lists-follow_end, none-follow, replaced-ids}
+use Rattle.desk_laws.proofs.OtherLemmas.{others-keep_rows}
+use Rattle.desk_laws.proofs.EndLemmas.{length-unit, length-rest, bytes-other, end-other, ends-leave_nothing}
+
+-- ---- the rows and lists of a scene
+
+-- no two rows have one id, and the lists have the mapped rows
+record AreListed (scene : Scene) : Type 0 where
+  apart : are_apart (map id_of scene.rows) ≡ true
+  lists : LayersFollow scene.rows scene.layers
+
+module _ (setup : Setup) (guest : ℕ) where
+  ends-listed : (input : Input) (cause : Cause) (desk : DeskState) → AreListed desk.scene → AreListed (ends setup guest input cause desk).desk.scene
+  ends-listed input cause desk is =
+      let f = lists-follow_end guest desk.scene.rows desk.scene.layers is.apart is.lists in
+      record { apart = f.apart; lists = f.follow }
+
+  -- what a verdict does
+  abbrev done : StreamUnit → DeskState → Verdict → StepOutcome
+  done unit desk v =
+      let e = carried_out guest (session_of guest desk).minor desk.scene.rows (session_of guest desk).port v in
+      unit_done setup guest unit e e.cause desk
+
+  verdict-listed : (unit : StreamUnit) (window : ℕ) (desk : DeskState) (v : Verdict) → IsOfOne window (mine guest desk.scene.rows) v → AreListed desk.scene
+      → AreListed (done unit desk v).desk.scene
+  verdict-listed unit window desk (Ends cause) one is = ends-listed (Took unit) cause desk is
+  verdict-listed unit window desk (Greets minor answers) one is =
+      record { apart = is.apart; lists = lists-follow desk.scene.rows desk.scene.layers is.apart is.lists.once }
+  verdict-listed unit window desk (Goes change answers) one is =
+      let f = lists-follow_one guest window change desk.scene.rows desk.scene.layers is.apart is.lists one in
+      record { apart = f.apart; lists = f.follow }
+  verdict-listed unit window desk (Reads row area) one is =
+      let g : Loads = load_all (session_of guest desk).port (frame_places row.dump (points area)) in
+      let rows : List Row = changed guest (Replaced (drawn_row row area g.words)) desk.scene.rows in
+      let apart : are_apart (map id_of rows) ≡ true = ap are_apart (replaced-ids guest (drawn_row row area g.words) desk.scene.rows) ∙ is.apart in
+      record { apart = apart; lists = lists-follow rows desk.scene.layers apart is.lists.once }
+
+  unit-listed : (unit : StreamUnit) (desk : DeskState) → AreListed desk.scene → AreListed (take_unit setup guest unit desk).desk.scene
+  unit-listed unit desk is = by_end (session_of guest desk).ended
+    where
+      by_end : (e : Option Cause) → AreListed (unit_of_open setup guest unit e desk).desk.scene
+      by_end None =
+          verdict-listed unit (window_of_unit unit) desk (verdict (sizes_of setup) guest (session_of guest desk).minor (mine guest desk.scene.rows) unit)
+          (of_unit (sizes_of setup) guest (session_of guest desk).minor (mine guest desk.scene.rows) unit) is
+      by_end (Some cause) = is
+
+  units-listed : (units : List StreamUnit) (desk : DeskState) → AreListed desk.scene → AreListed (take_units setup guest units desk).desk.scene
+  units-listed [] desk is = is
+  units-listed (u ∷ units) desk is = units-listed units (take_unit setup guest u desk).desk (unit-listed u desk is)
+
+  rest-scene : (rest : List ℕ) (desk : DeskState) → (with_rest guest rest desk).scene ≡ desk.scene
+  rest-scene rest desk = by_end (session_of guest desk).ended
+    where
+      by_end : (e : Option Cause) → (rest_of_open guest rest e desk).scene ≡ desk.scene
+      by_end None = refl
+      by_end (Some cause) = refl
+
+  bytes-listed : (piece : List ℕ) (desk : DeskState) → AreListed desk.scene → AreListed (take_bytes setup guest piece desk).desk.scene
+  bytes-listed piece desk is = by_end (session_of guest desk).ended
+    where
+      c : Cut
+      c = cut (session_of guest desk).greeted ((session_of guest desk).rest ++ piece)
+
+      by_end : (e : Option Cause) → AreListed (bytes_of_open setup guest piece e desk).desk.scene
+      by_end None = units-listed c.units (with_rest guest c.rest desk) (subst (λ s. AreListed s) (sym (rest-scene c.rest desk)) is)
+      by_end (Some cause) = is
+
+  end-listed : (input : Input) (cause : Cause) (desk : DeskState) → AreListed desk.scene → AreListed (end_session setup guest input cause desk).desk.scene
+  end-listed input cause desk is = by_end (session_of guest desk).ended
+    where
+      by_end : (e : Option Cause) → AreListed (end_of_open setup guest input cause e desk).desk.scene
+      by_end None = ends-listed input cause desk is
+      by_end (Some c) = is
+
+-- ---- the rows of others, and the number of sessions
+
+module _ (setup : Setup) (guest other : ℕ) (apart : other ≢ guest) where
+  verdict-keeps : (unit : StreamUnit) (desk : DeskState) (v : Verdict) → mine other (done setup guest unit desk v).desk.scene.rows ≡ mine other desk.scene.rows
+  verdict-keeps unit desk (Ends cause) = others-keep_rows guest other Cleared desk.scene.rows apart
+  verdict-keeps unit desk (Greets minor answers) = refl
+  verdict-keeps unit desk (Goes change answers) = others-keep_rows guest other change desk.scene.rows apart
+  verdict-keeps unit desk (Reads row area) =
+      others-keep_rows guest other (Replaced (drawn_row row area (load_all (session_of guest desk).port (frame_places row.dump (points area))).words)) desk.scene.rows apart
+
+  unit-keeps : (unit : StreamUnit) (desk : DeskState) → mine other (take_unit setup guest unit desk).desk.scene.rows ≡ mine other desk.scene.rows
+  unit-keeps unit desk = by_end (session_of guest desk).ended
+    where
+      by_end : (e : Option Cause) → mine other (unit_of_open setup guest unit e desk).desk.scene.rows ≡ mine other desk.scene.rows
+      by_end None = verdict-keeps unit desk (verdict (sizes_of setup) guest (session_of guest desk).minor (mine guest desk.scene.rows) unit)
+      by_end (Some cause) = refl
+
+  units-keep : (units : List StreamUnit) (desk : DeskState) → mine other (take_units setup guest units desk).desk.scene.rows ≡ mine other desk.scene.rows
+  units-keep [] desk = refl
+  units-keep (u ∷ units) desk = units-keep units (take_unit setup guest u desk).desk ∙ unit-keeps u desk
+
+  bytes-keep : (piece : List ℕ) (desk : DeskState) → mine other (take_bytes setup guest piece desk).desk.scene.rows ≡ mine other desk.scene.rows
+  bytes-keep piece desk = by_end (session_of guest desk).ended
+    where
+      c : Cut
+      c = cut (session_of guest desk).greeted ((session_of guest desk).rest ++ piece)
+
+      by_end : (e : Option Cause) → mine other (bytes_of_open setup guest piece e desk).desk.scene.rows ≡ mine other desk.scene.rows
+      by_end None = units-keep c.units (with_rest guest c.rest desk) ∙ ap (λ s. mine other s.rows) (rest-scene setup guest c.rest desk)
+      by_end (Some cause) = refl
+
+  end-keeps : (input : Input) (cause : Cause) (desk : DeskState) → mine other (end_session setup guest input cause desk).desk.scene.rows ≡ mine other desk.scene.rows
+  end-keeps input cause desk = by_end (session_of guest desk).ended
+    where
+      by_end : (e : Option Cause) → mine other (end_of_open setup guest input cause e desk).desk.scene.rows ≡ mine other desk.scene.rows
+      by_end None = others-keep_rows guest other Cleared desk.scene.rows apart
+      by_end (Some c) = refl
+
+module _ (setup : Setup) (guest : ℕ) where
+  length-units : (units : List StreamUnit) (desk : DeskState) → length (take_units setup guest units desk).desk.sessions ≡ length desk.sessions
+  length-units [] desk = refl
+  length-units (u ∷ units) desk = length-units units (take_unit setup guest u desk).desk ∙ length-unit setup guest u desk
+
+  length-bytes : (piece : List ℕ) (desk : DeskState) → length (take_bytes setup guest piece desk).desk.sessions ≡ length desk.sessions
+  length-bytes piece desk = by_end (session_of guest desk).ended
+    where
+      c : Cut
+      c = cut (session_of guest desk).greeted ((session_of guest desk).rest ++ piece)
+
+      by_end : (e : Option Cause) → length (bytes_of_open setup guest piece e desk).desk.sessions ≡ length desk.sessions
+      by_end None = length-units c.units (with_rest guest c.rest desk) ∙ length-rest setup guest c.rest desk
+      by_end (Some cause) = refl
+
+  length-end : (input : Input) (cause : Cause) (desk : DeskState) → length (end_session setup guest input cause desk).desk.sessions ≡ length desk.sessions
+  length-end input cause desk = by_end (session_of guest desk).ended
+    where
+      by_end : (e : Option Cause) → length (end_of_open setup guest input cause e desk).desk.sessions ≡ length desk.sessions
+      by_end None = length-set desk.sessions guest (record (session_of guest desk) { rest = []; ended = Some cause })
+      by_end (Some c) = refl
+
+-- ---- sessions that have ended
+
+-- an item of one guest, from the state before it to that after it
+record IsOfGuest (guest : ℕ) (desk after : DeskState) : Type 0 where
+  sessions : length after.sessions ≡ length desk.sessions
+  session : (other : ℕ) → other ≢ guest → session_of other after ≡ session_of other desk
+  rows : (other : ℕ) → other ≢ guest → mine other after.scene.rows ≡ mine other desk.scene.rows
+  over : (cause : Cause) → (session_of guest desk).ended ≡ Some cause → after ≡ desk
+  gone : (cause : Cause) → guest < length desk.sessions → (session_of guest desk).ended ≡ None → (session_of guest after).ended ≡ Some cause → IsGone guest after
+
+item-sound : (guest : ℕ) (desk after : DeskState) → IsSound desk → IsOfGuest guest desk after → AreListed after.scene → IsSound after
+item-sound guest desk after is of listed = record {
+  apart = listed.apart;
+  lists = listed.lists;
+  gone = λ other cause known over. by_guest other cause (other == guest) refl (subst (λ n. other < n) of.sessions known) over;
+}
+  where
+    of_own : (cause : Cause) (e : Option Cause) → (session_of guest desk).ended ≡ e → guest < length desk.sessions → (session_of guest after).ended ≡ Some cause
+        → mine guest after.scene.rows ≡ []
+    of_own cause None e known over = let g = of.gone cause known e over in g.rows
+    of_own cause (Some c) e known over = ap (λ d. mine guest d.scene.rows) (of.over c e) ∙ is.gone guest c known e
+
+    by_guest : (other : ℕ) (cause : Cause) (b : Bool) → (other == guest) ≡ b → other < length desk.sessions → (session_of other after).ended ≡ Some cause
+        → mine other after.scene.rows ≡ []
+    by_guest other cause true e known over =
+        let same : other ≡ guest = eqb-true other guest e in
+        let own : mine guest after.scene.rows ≡ [] =
+        of_own cause (session_of guest desk).ended refl (subst (λ n. n < length desk.sessions) same known) (subst (λ n. (session_of n after).ended ≡ Some cause) same over) in
+        subst (λ n. mine n after.scene.rows ≡ []) (sym same) own
+    by_guest other cause false e known over =
+        let apart = eqb-false other guest e in
+        of.rows other apart ∙ is.gone other cause known (sym (ap (λ s. s.ended) (of.session other apart)) ∙ over)
+
+-- ---- the laws
+
+-- the count of items says nothing of this
+counted-sound : (state : DeskState) → IsSound state → IsSound (count_item state)
+counted-sound state is = record { apart = is.apart; lists = is.lists; gone = is.gone }
+
+pub opening-is_sound : OpeningIsSound
+opening-is_sound setup = record { apart = refl; lists = none-follow; gone = λ guest cause known over. refl }
+
+pub steps-keep_sound : StepsKeepSound
+steps-keep_sound setup (item.Bytes g) piece state taken is =
+    item-sound g (count_item state) (take_bytes setup g piece (count_item state)).desk (counted-sound state is)
+    (record {
+      sessions = length-bytes setup g piece (count_item state);
+      session = λ other apart. bytes-other setup g other apart piece (count_item state);
+      rows = λ other apart. bytes-keep setup g other apart piece (count_item state);
+      over = λ cause e. ap (λ c. (bytes_of_open setup g piece c (count_item state)).desk) e;
+      gone = λ cause known e over. ends-leave_nothing setup (item.Bytes g) piece g cause state known e over;
+    })
+    (bytes-listed setup g piece (count_item state) (record { apart = is.apart; lists = is.lists }))
+steps-keep_sound setup (item.Closed g) piece state taken is =
+    item-sound g (count_item state) (end_session setup g Closing (StreamEnded 0 0) (count_item state)).desk (counted-sound state is)
+    (record {
+      sessions = length-end setup g Closing (StreamEnded 0 0) (count_item state);
+      session = λ other apart. end-other setup g other apart Closing (StreamEnded 0 0) (count_item state);
+      rows = λ other apart. end-keeps setup g other apart Closing (StreamEnded 0 0) (count_item state);
+      over = λ cause e. ap (λ c. (end_of_open setup g Closing (StreamEnded 0 0) c (count_item state)).desk) e;
+      gone = λ cause known e over. ends-leave_nothing setup (item.Closed g) piece g cause state known e over;
+    })
+    (end-listed setup g Closing (StreamEnded 0 0) (count_item state) (record { apart = is.apart; lists = is.lists }))
+steps-keep_sound setup (item.Lost g) piece state taken is =
+    item-sound g (count_item state) (end_session setup g Losing (LinkFailed 0 0) (count_item state)).desk (counted-sound state is)
+    (record {
+      sessions = length-end setup g Losing (LinkFailed 0 0) (count_item state);
+      session = λ other apart. end-other setup g other apart Losing (LinkFailed 0 0) (count_item state);
+      rows = λ other apart. end-keeps setup g other apart Losing (LinkFailed 0 0) (count_item state);
+      over = λ cause e. ap (λ c. (end_of_open setup g Losing (LinkFailed 0 0) c (count_item state)).desk) e;
+      gone = λ cause known e over. ends-leave_nothing setup (item.Lost g) piece g cause state known e over;
+    })
+    (end-listed setup g Losing (LinkFailed 0 0) (count_item state) (record { apart = is.apart; lists = is.lists }))
+steps-keep_sound setup item.Snap piece state taken is = counted-sound state is
+steps-keep_sound setup item.End piece state taken is = counted-sound state is
+steps-keep_sound setup item.Idle piece state taken is = is
+steps-keep_sound setup i piece state taken is = cc
+
+runs-sound : (setup : Setup) (items : List FedItem) (state : DeskState) → All (λ i. takes_item i.item ≡ true) items → IsSound state → IsSound (run setup items state).desk
+runs-sound setup [] state taken is = is
+runs-sound setup (i ∷ items) state taken is =
+    runs-sound setup items (step setup i.item i.piece state).desk (All-tail (λ x. takes_item x.item ≡ true) i items taken)
+    (steps-keep_sound setup i.item i.piece state (All-head (λ x. takes_item x.item ≡ true) i items taken) is)
+
+pub runs-are_sound : RunsAreSound
+runs-are_sound setup items taken = runs-sound setup items (opening setup) taken (opening-is_sound setup)

@@ -1,0 +1,10 @@
+use Rattle.std.proofs.Common.{subst}
+use Rattle.guest_session.specs.SessionView.{AreRows}
+use Rattle.guest_session.specs.RowsView.{RowsView}
+use Rattle.guest_session.proofs.TableLemmas.{are_rows}
+use Rattle.guest_session.proofs.rows.Rows.count.Goals as goal
+
+pub returns-clause-sound : goal.returns-clause-sound
+returns-clause-sound c =
+    let P : RowsView → Type 0 = λ v. AreRows v.guest v.rows in
+    subst P c.self.view_is (are_rows c.self.inside.guest c.self.inside.table.entries c.len.ensures.apart c.len.ensures.few c.self.invariant.0.placed)

@@ -1,0 +1,46 @@
+use Rattle.std.proofs.Common.{◌≡◌, ◌∙◌, ℕ, Some, None, refl, sym, ap, subst}
+use Rattle.gui_wire.specs.Seen.{references}
+use Rattle.desk_laws.specs.Rows.{Row, row_with}
+use Rattle.window_table.specs.declared.pane.Pane.{Pane}
+use Rattle.window_table.specs.Entries as entries
+use Rattle.window_table.specs.Entries.{Entry, TableView, with_pane}
+use Rattle.guest_session.specs.SessionView.{IsPlace, AreRows}
+use Rattle.guest_session.specs.RowsView.{RowsView, with_row, with_dump, own_row}
+use Rattle.guest_session.specs.Edits.{row_edited, pane_edited}
+use Rattle.guest_session.proofs.TableLemmas.{has_slot, HasSlot, are_rows}
+use Rattle.guest_session.proofs.RowChanges.{kept-updated, viewed-updated, row-is, row-none, got-is, shows-row, placed-at-slot, dump-fits, edited-row, edited-place}
+use Rattle.guest_session.proofs.rows.Rows.pane.Goals as goal
+
+pub get-requires : goal.get-requires
+get-requires c =
+    let h = has_slot c.args.window c.in-Some.slot c.self.inside.table.entries c.slot_of.ensures.apart c.in-Some.ensures.slot in
+    rw h.at_slot refl
+
+pub returns-in-Some-clause-is : goal.returns-in-Some-clause-is
+returns-in-Some-clause-is c =
+    let s = c.self.inside in
+    let h = has_slot c.args.window c.in-Some.slot s.table.entries c.slot_of.ensures.apart c.in-Some.ensures.slot in
+    shows-row s.guest s.pages c.args.window c.in-Some.slot s.table c.args.self.now h c.get.result.now c.self.view_is
+    (got-is c.args.window c.in-Some.slot s.table.entries h (λ e. e.pane) c.get.result.now c.get.ensures)
+
+pub returns-in-Some-clause-place : goal.returns-in-Some-clause-place
+returns-in-Some-clause-place c =
+    let s = c.self.inside in
+    let h = has_slot c.args.window c.in-Some.slot s.table.entries c.slot_of.ensures.apart c.in-Some.ensures.slot in
+    let P : Pane → Type 0 = λ p. IsPlace p.place in
+    subst P (got-is c.args.window c.in-Some.slot s.table.entries h (λ e. e.pane) c.get.result.now c.get.ensures)
+    (placed-at-slot c.args.window c.in-Some.slot s.table h c.self.invariant.0)
+
+pub returns-in-Some-clause-sound : goal.returns-in-Some-clause-sound
+returns-in-Some-clause-sound c =
+    let P : RowsView → Type 0 = λ v. AreRows v.guest v.rows in
+    subst P c.self.view_is (are_rows c.self.inside.guest c.self.inside.table.entries c.slot_of.ensures.apart c.slot_of.ensures.few c.self.invariant.0.placed)
+
+pub returns-in-None-clause-is : goal.returns-in-None-clause-is
+returns-in-None-clause-is c =
+    row-none c.self.inside.guest c.self.inside.pages c.args.window c.self.inside.table c.args.self.now c.self.view_is c.in-None.ensures.slot
+
+pub returns-in-None-clause-sound : goal.returns-in-None-clause-sound
+returns-in-None-clause-sound c =
+    let P : RowsView → Type 0 = λ v. AreRows v.guest v.rows in
+    subst P c.self.view_is (are_rows c.self.inside.guest c.self.inside.table.entries c.slot_of.ensures.apart c.slot_of.ensures.few c.self.invariant.0.placed)

@@ -1,0 +1,47 @@
+-- What a change of one window does to its pane and to its row.
+use Rattle.std.specs.Prelude.{ℕ, ◌≡◌, ◌≤◌, Bool, true, false, List, length, if◌then◌else◌}
+use Rattle.gui_num.specs.declared.Rect.{Rect}
+use Rattle.desk_laws.specs.Rows.{Row, placed_at}
+use Rattle.desk_laws.specs.Effects.{text_of, flags_without, minimize, unmapped_row}
+use Rattle.window_table.specs.declared.pane.Pane.{Pane}
+use Rattle.guest_session.specs.declared.edit.Edit.{Edit}
+use Rattle.guest_session.specs.declared.edit.Edit.TheVariants.{Map, Unmap, Configure, Title, Dock, Hints, Class, Cursor}
+use Rattle.guest_session.specs.SessionView.{IsPlace}
+
+-- the pane after a change
+abbrev pub pane_edited : Edit → Pane → Pane
+pane_edited (Map asked transient) pane =
+    record pane { mapped = true; asked = asked; over = false; transient = transient }
+pane_edited Unmap pane = record pane { mapped = false; over = false; flags = flags_without pane.flags minimize }
+pane_edited (Configure place asked) pane =
+    record pane { place = place; asked = asked; over = if pane.mapped then false else pane.over }
+pane_edited (Title text) pane = record pane { title = record { items = text_of text.now } }
+pane_edited Dock pane = record pane { docked = true }
+pane_edited (Hints hints) pane = record pane { hints = hints }
+pane_edited (Class class name) pane =
+    record pane { class = record { items = text_of class.now }; name = record { items = text_of name.now } }
+pane_edited (Cursor cursor) pane = record pane { cursor = cursor }
+
+-- the row after a change, while no window is placed by itself
+abbrev pub row_edited : Edit → Row → Row
+row_edited (Map asked transient) row =
+    record row { mapped = true; asked = asked; over = false; transient = transient }
+row_edited Unmap row = unmapped_row row
+row_edited (Configure place asked) row =
+    record (placed_at place row) { asked = asked; over = if row.mapped then false else row.over }
+row_edited (Title text) row = record row { title = text_of text.now }
+row_edited Dock row = record row { docked = true }
+row_edited (Hints hints) row = record row { hints = hints }
+row_edited (Class class name) row = record row { class = text_of class.now; name = text_of name.now }
+row_edited (Cursor cursor) row = record row { cursor = cursor }
+
+-- a change that fits a pane: a place in range, and texts that have room
+abbrev pub FitsEdit : Edit → Type 0
+FitsEdit (Map asked transient) = Unit {0}
+FitsEdit Unmap = Unit {0}
+FitsEdit (Configure place asked) = IsPlace place
+FitsEdit (Title text) = length text.now ≤ 128
+FitsEdit Dock = Unit {0}
+FitsEdit (Hints hints) = Unit {0}
+FitsEdit (Class class name) = (length class.now ≤ 64) × (length name.now ≤ 64)
+FitsEdit (Cursor cursor) = Unit {0}

@@ -1,0 +1,9 @@
+pub mod SessionView
+pub mod Panes
+pub mod Clips
+pub mod Turns
+pub mod Numbers
+pub mod RowsView
+pub mod Edits
+pub mod Obeyed
+pub mod Parts

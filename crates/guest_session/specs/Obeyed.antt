@@ -1,0 +1,84 @@
+-- What a checked message does to its guest's rows, and what it answers.
+use Rattle.std.specs.Prelude.{◌≡◌, ℕ, ◌+◌, ◌≤◌, ◌<◌, Bool, true, false, List, [], ◌∷◌, length, Option, Some, None, is_some, Result, Ok, Err}
+use Rattle.gui_wire.specs.Seen.{references}
+use Rattle.desk_laws.specs.declared.cause.Cause.{Cause}
+use Rattle.desk_laws.specs.Rows.{Row, row_with}
+use Rattle.desk_laws.specs.Effects.{Change, Same, Added, Replaced, Removed, Verdict, Ends, Greets, Goes, Reads, created, id_if, isnt_zero, tells_place, acks, refs_besides}
+use Rattle.desk_laws.specs.Scene.{Post, replies}
+use Rattle.io_ports.specs.Posts.{Leads}
+use Rattle.message_checks.specs.declared.command.Command.{Command}
+use Rattle.message_checks.specs.declared.command.Command.TheVariants.{Create, Destroy, Map, Unmap, Configure, Shmimage, Clip, Name, Dock, Hints, Flags, Class, Dump, Cursor}
+use Rattle.guest_session.specs.declared.edit.Edit.{Edit}
+use Rattle.guest_session.specs.declared.edit.Edit.TheVariants as edit
+use Rattle.guest_session.specs.SessionView.{IsPlace}
+use Rattle.guest_session.specs.RowsView.{RowsView, with_change, with_dump}
+use Rattle.guest_session.specs.Edits.{row_edited}
+
+-- the rows changed like this, and the guest was answered
+pub record Answered {O : Type 0} (takes : O → Post → O → Type 0) (out out' : O) (old new : RowsView) (change : Change) (answers : List (List ℕ)) : Type 0 where
+  pub rows : new ≡ with_change change old
+  pub told : Leads takes out (replies old.guest answers) out'
+
+-- the row of a window changed like this, and the guest was answered
+abbrev pub AnsweredFor : {O : Type 0} → (O → Post → O → Type 0) → O → O → RowsView → RowsView → ℕ → (Row → Row) → (Row → List (List ℕ)) → Type 0
+AnsweredFor takes out out' old new window change answers =
+    (row : Row) → row_with window old.rows ≡ Some row → Answered takes out out' old new (Replaced (change row)) (answers row)
+
+-- one window alone changed, and nothing was answered
+abbrev pub Edited : {O : Type 0} → (O → Post → O → Type 0) → O → O → RowsView → RowsView → ℕ → Edit → Type 0
+Edited takes out out' old new window change =
+    AnsweredFor takes out out' old new window (row_edited change) (λ row. [])
+
+-- what a command for a window did, under this minor version; the messages that aren't taken say nothing
+abbrev pub Obeyed : {O : Type 0} → (O → Post → O → Type 0) → O → O → RowsView → RowsView → ℕ → ℕ → Command → Type 0
+Obeyed takes out out' old new minor window (Create rect parent override_redirect) =
+    Answered takes out out' old new
+    (Added (created old.guest window rect (id_if (is_some (row_with parent old.rows)) parent) (isnt_zero override_redirect))) []
+Obeyed takes out out' old new minor window Destroy =
+    (row : Row) → row_with window old.rows ≡ Some row → Answered takes out out' old new (Removed window) []
+Obeyed takes out out' old new minor window (Map transient_for override_redirect) =
+    Edited takes out out' old new window
+    (edit.Map (isnt_zero override_redirect) (id_if (is_some (row_with transient_for old.rows)) transient_for))
+Obeyed takes out out' old new minor window Unmap = Edited takes out out' old new window edit.Unmap
+Obeyed takes out out' old new minor window (Configure rect override_redirect) =
+    AnsweredFor takes out out' old new window (row_edited (edit.Configure rect (isnt_zero override_redirect)))
+    (λ row. tells_place window rect (row_edited (edit.Configure rect (isnt_zero override_redirect)) row).over ∷ [])
+Obeyed takes out out' old new minor window (Shmimage x y width height) = Unit {0}
+Obeyed takes out out' old new minor window (Clip bytes) = Answered takes out out' old new Same []
+Obeyed takes out out' old new minor window (Name text) = Edited takes out out' old new window (edit.Title text)
+Obeyed takes out out' old new minor window Dock = Edited takes out out' old new window edit.Dock
+Obeyed takes out out' old new minor window (Hints hints) = Edited takes out out' old new window (edit.Hints hints)
+Obeyed takes out out' old new minor window (Flags flags_set flags_unset) = Unit {0}
+Obeyed takes out out' old new minor window (Class class name) = Edited takes out out' old new window (edit.Class class name)
+Obeyed takes out out' old new minor window (Dump kind width height bpp refs) =
+    AnsweredFor takes out out' old new window (with_dump width height (references refs)) (λ row. acks minor window)
+Obeyed takes out out' old new minor window (Cursor cursor) = Edited takes out out' old new window (edit.Cursor cursor)
+
+-- a command that can be obeyed: what it needs of the rows, and of itself
+abbrev pub CanObey : RowsView → ℕ → Command → Type 0
+CanObey rows window (Create rect parent override_redirect) =
+    (row_with window rows.rows ≡ None) × (length rows.rows < 1024) × IsPlace rect
+CanObey rows window (Configure rect override_redirect) = IsPlace rect
+CanObey rows window (Name text) = length text.now ≤ 128
+CanObey rows window (Class class name) = (length class.now ≤ 64) × (length name.now ≤ 64)
+CanObey rows window (Dump kind width height bpp refs) =
+    refs_besides window rows.rows + length (references refs) ≤ rows.pages
+CanObey rows window command = Unit {0}
+
+-- nothing came of a message, and it is refused for this cause
+pub record Refused {O : Type 0} (out out' : O) (old new : RowsView) (result : Result (Unit {0}) Cause) (cause : Cause) : Type 0 where
+  pub answer : result ≡ Err cause
+  pub rows : new ≡ old
+  pub silent : out' ≡ out
+
+-- a message was taken, and answered
+pub record Accepted {O : Type 0} (takes : O → Post → O → Type 0) (out out' : O) (old new : RowsView) (result : Result (Unit {0}) Cause) (change : Change) (answers : List (List ℕ)) : Type 0 where
+  pub answer : result ≡ Ok tt
+  pub done : Answered takes out out' old new change answers
+
+-- what became of a message with this verdict
+abbrev pub Carries : {O : Type 0} → (O → Post → O → Type 0) → O → O → RowsView → RowsView → Result (Unit {0}) Cause → Verdict → Type 0
+Carries takes out out' old new result (Ends cause) = Refused out out' old new result cause
+Carries takes out out' old new result (Greets minor answers) = ⊥
+Carries takes out out' old new result (Goes change answers) = Accepted takes out out' old new result change answers
+Carries takes out out' old new result (Reads row area) = ⊥

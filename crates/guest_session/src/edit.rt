@@ -1,0 +1,64 @@
+// A change of one window, and of nothing else.
+ghost use Rattle.std.specs.Prelude.{◌≡◌};
+ghost use Rattle.guest_session.specs.Edits.{FitsEdit, pane_edited};
+
+use crate::text::text_of;
+use gui_num::Rect;
+use window_table::Pane;
+
+// The flag of a window that is minimized.
+const MINIMIZE: u32 = 4;
+
+// What changes.
+#[derive(Clone, Copy)]
+pub(crate) enum Edit<'a> {
+    // It is mapped. `transient` is the window that it is transient for, 0 for none.
+    Map { asked: bool, transient: u32 },
+    // It is unmapped, and no longer minimized.
+    Unmap,
+    // It has another place.
+    Configure { place: Rect, asked: bool },
+    // It has another title.
+    Title(&'a [u8]),
+    // It is docked.
+    Dock,
+    // It has other hints for its size.
+    Hints([u32; 9]),
+    // It has another class, and another name of it.
+    Class { class: &'a [u8], name: &'a [u8] },
+    // It has another cursor.
+    Cursor(u32),
+}
+
+// Changes what is kept of the window.
+pub(crate) fn edit_pane(pane: &mut Pane, edit: &Edit<'_>)
+    requires { FitsEdit edit.now }
+    ensures { pane.new ≡ pane_edited edit.now pane.old }
+{
+    match *edit {
+        Edit::Map { asked, transient } => {
+            pane.mapped = true;
+            pane.asked = asked;
+            pane.over = false;
+            pane.transient = transient;
+        }
+        Edit::Unmap => {
+            pane.mapped = false;
+            pane.over = false;
+            pane.flags -= pane.flags & MINIMIZE;
+        }
+        Edit::Configure { place, asked } => {
+            pane.place = place;
+            pane.asked = asked;
+            pane.over = pane.over && !pane.mapped;
+        }
+        Edit::Title(text) => pane.title = text_of(text),
+        Edit::Dock => pane.docked = true,
+        Edit::Hints(hints) => pane.hints = hints,
+        Edit::Class { class, name } => {
+            pane.class = text_of(class);
+            pane.name = text_of(name);
+        }
+        Edit::Cursor(cursor) => pane.cursor = cursor,
+    }
+}

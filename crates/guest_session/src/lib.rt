@@ -1,0 +1,20 @@
+//! One guest's session with the daemon: its bytes, its windows, and what they lead to. It reads
+//! messages of the Qubes GUI protocol, checks each before anything of it has an effect, and answers
+//! its guest alone.
+//!
+//! All memory is taken as a session is opened.
+#![tactic(auto)]
+
+mod edit;
+mod numbers;
+mod obey;
+mod replies;
+mod rows;
+mod session;
+mod text;
+mod turn;
+mod units;
+
+pub use session::Session;
+pub use turn::Turn;
+pub use window_table::Pane;

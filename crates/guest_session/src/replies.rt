@@ -1,0 +1,79 @@
+// What a session tells its guest.
+ghost use Rattle.std.specs.Prelude.{◌≡◌, ◌≤◌, [], ◌∷◌};
+ghost use Rattle.desk_laws.specs.Effects as effects;
+ghost use Rattle.desk_laws.specs.Effects.{tells_place, acks, greeting};
+ghost use Rattle.desk_laws.specs.Scene.{Reply, replies};
+ghost use Rattle.io_ports.specs.Posts.{Leads};
+ghost use Rattle.guest_session.specs.Numbers.{sizes_in};
+
+use crate::numbers::Numbers;
+use gui_num::Rect;
+use gui_wire::{DaemonMsg, spell_daemon, spell_word, spell_xconf};
+use io_ports::Outlet;
+
+// The daemon's version of the Qubes GUI protocol: 1.7.
+const VERSION: u32 = 0x0001_0007;
+
+// The least minor version of an agent that is told the daemon's version.
+const KNOWS_VERSION: u32 = 4;
+
+// The least minor version of an agent whose dumps are acknowledged.
+const KNOWS_DUMP_ACK: u32 = 7;
+
+// Answers a version word: with the daemon's version from minor version 4 on, and with the size of the
+// desktop.
+pub(crate) fn greet<O: Outlet>(guest: u32, numbers: &Numbers, minor: u32, out: &mut O)
+    requires wide { numbers.now.width ≤ 8192 }
+    requires high { numbers.now.height ≤ 8192 }
+    ensures { Leads O.takes out.old (replies guest (greeting (sizes_in numbers.now) minor)) out.new }
+{
+    if minor >= KNOWS_VERSION {
+        let mut version = [0; 4];
+        spell_word(VERSION, &mut version);
+        out.reply(guest, &version);
+    }
+    let mut xconf = [0; 16];
+    spell_xconf(numbers.width, numbers.height, &mut xconf);
+    out.reply(guest, &xconf);
+}
+
+// 1 for yes, 0 for no.
+fn as_one(b: bool) -> u32
+    ensures { result ≡ effects.as_one b }
+{
+    if b { 1 } else { 0 }
+}
+
+// The message that tells a window's place, and whether it is placed by itself.
+fn place_bytes(window: u32, place: Rect, over: bool) -> [u8; 32]
+    ensures { result ≡ tells_place window place over }
+{
+    let mut bytes = [0; 32];
+    let message = DaemonMsg::Configure {
+        x: place.x,
+        y: place.y,
+        width: place.w,
+        height: place.h,
+        override_redirect: as_one(over),
+    };
+    spell_daemon(window, &message, &mut bytes);
+    bytes
+}
+
+// Tells a window's place, and whether it is placed by itself.
+pub(crate) fn tell_place<O: Outlet>(guest: u32, window: u32, place: Rect, over: bool, out: &mut O)
+    ensures { Leads O.takes out.old (replies guest (tells_place window place over ∷ [])) out.new }
+{
+    out.reply(guest, &place_bytes(window, place, over));
+}
+
+// Acknowledges a dump, from minor version 7 on.
+pub(crate) fn acknowledge<O: Outlet>(guest: u32, window: u32, minor: u32, out: &mut O)
+    ensures { Leads O.takes out.old (replies guest (acks minor window)) out.new }
+{
+    if minor >= KNOWS_DUMP_ACK {
+        let mut bytes = [0; 12];
+        spell_daemon(window, &DaemonMsg::DumpAck, &mut bytes);
+        out.reply(guest, &bytes);
+    }
+}

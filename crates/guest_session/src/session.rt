@@ -1,0 +1,164 @@
+// One guest's session.
+ghost use Rattle.std.specs.Prelude.{◌≡◌, ℕ, ◌+◌, ◌-◌, ◌<◌, ◌≤◌, List, [], ◌++◌, length, take, Some, None, false, true, IfOk, IfSome, MatchOption};
+ghost use Rattle.gui_wire.specs.declared.Header.{Header};
+ghost use Rattle.desk_laws.specs.declared.cause.Cause.{Cause};
+ghost use Rattle.desk_laws.specs.Rules.{first_broken};
+ghost use Rattle.desk_laws.specs.Sizes.{sizes_of};
+ghost use Rattle.desk_laws.specs.Rows.{row_with};
+ghost use Rattle.desk_laws.specs.Stream.{front};
+ghost use Rattle.desk_laws.specs.Stream as cut;
+ghost use Rattle.in_stream.specs.Received.{StandsFor};
+ghost use Rattle.in_stream.specs.Taking.{DropsUnit};
+ghost use Rattle.guest_session.specs.SessionView.{HasRows, IsEnded, IsPlace, opened, with_stream};
+ghost use Rattle.guest_session.specs.Panes.{ShowsRow};
+ghost use Rattle.guest_session.specs.Clips.{BeginsWithClip, HasClip, HasKeptClip};
+ghost use Rattle.guest_session.specs.Turns.{Turns};
+
+use crate::Turn;
+use crate::numbers::{Numbers, numbers_of};
+use crate::rows::Rows;
+use crate::units::{ended_by, take_unit};
+use desk_laws::{Cause, Setup};
+use gui_num::NoMemory;
+use in_stream::{Front, InStream};
+use io_ports::Outlet;
+use std::alloc::Global;
+use std::marker::Model;
+use window_table::Pane;
+
+/// One guest's session.
+#[derive(Drop)]
+pub struct Session {
+    numbers: Numbers,
+    stream: InStream,
+    rows: Rows,
+    minor: u32,
+    ended: Option<Cause>,
+}
+
+impl Model for Session {
+    ghost use Rattle.guest_session.specs.SessionView.{SessionView};
+    ghost use Rattle.guest_session.specs.Numbers.{sizes_in};
+    ghost use Rattle.guest_session.specs.Parts.{joined, AreJoined};
+
+    ghost Value = { SessionView };
+
+    ghost view = { λ s. joined (sizes_in s.numbers) s.stream s.rows s.minor s.ended };
+
+    ghost invariant = { λ s. AreJoined s.numbers s.rows };
+}
+
+impl Session {
+    /// The session of a guest, counted from 0, before any of its bytes, under a setup that keeps its
+    /// rules. It takes all memory that it ever needs. `NoMemory` is want of that memory; no other call
+    /// takes any.
+    pub fn open(alloc: Global, guest: u32, setup: &Setup) -> Result<Session, NoMemory>
+        requires rules { first_broken setup.now ≡ None }
+        requires guest { guest < length setup.now.guests }
+        ensures fresh { IfOk result (λ s. s ≡ opened guest (sizes_of setup.now) s.stream) }
+        ensures greeted { IfOk result (λ s. s.stream.greeted ≡ false) }
+        ensures stands { IfOk result (λ s. StandsFor s.stream []) }
+    {
+        let numbers = numbers_of(setup);
+        Ok(Session {
+            numbers,
+            stream: InStream::new(alloc)?,
+            rows: Rows::new(alloc, guest, numbers.pages)?,
+            minor: 0,
+            ended: None,
+        })
+    }
+
+    /// Takes bytes of the guest from the front of `piece`, and answers how many. At least one byte of
+    /// a piece that isn't empty is taken where no whole message is held: by the first call after
+    /// `open`, and by the first call after a `turn` that answered Wait. After the end all bytes are
+    /// taken and dropped.
+    pub fn push(&mut self, piece: &[u8]) -> usize
+        ensures within { result ≤ length piece.now }
+        ensures stands { self.old.ended ≡ None → (rest : List ℕ) → StandsFor self.old.stream rest → StandsFor self.new.stream (rest ++ take result piece.now) }
+        ensures some { self.old.ended ≡ None → (rest : List ℕ) → StandsFor self.old.stream rest → front self.old.stream.greeted rest ≡ cut.Wait → 0 < length piece.now → 0 < result }
+        ensures kept { self.new ≡ with_stream self.new.stream self.old }
+        ensures greeted { self.new.stream.greeted ≡ self.old.stream.greeted }
+        ensures over { (cause : Cause) → self.old.ended ≡ Some cause → (result ≡ length piece.now) × (self.new ≡ self.old) }
+    {
+        if self.ended.is_some() {
+            return piece.len();
+        }
+        self.stream.push(piece)
+    }
+
+    /// Takes at most one message off the bytes, or the version word, and answers the guest through the
+    /// outlet. Wait exactly where none is there whole. A message that is refused ends the session with
+    /// its cause, its windows are then gone, and nothing is answered; that the session ended isn't
+    /// posted here. After the end it answers Wait and does nothing.
+    pub fn turn<O: Outlet>(&mut self, out: &mut O) -> Turn
+        ensures turned { self.old.ended ≡ None → (rest : List ℕ) → StandsFor self.old.stream rest → Turns O.takes out.old out.new self.old self.new result (front self.old.stream.greeted rest) }
+        ensures over { (cause : Cause) → self.old.ended ≡ Some cause → (result ≡ Turn.Wait) × (self.new ≡ self.old) × (out.new ≡ out.old) }
+    {
+        if self.ended.is_some() {
+            return Turn::Wait;
+        }
+        let turn = take_unit(
+            &mut self.stream,
+            &mut self.rows,
+            &self.numbers,
+            &mut self.minor,
+            out,
+        );
+        self.ended = ended_by(turn);
+        turn
+    }
+
+    /// The clipboard data that stands in front, after `turn` answered ClipWhole.
+    pub fn clip(&self) -> &[u8]
+        requires { HasKeptClip self.now.stream }
+        ensures { (header : Header) (body : List ℕ) → BeginsWithClip self.now.stream header body → result.now ≡ body }
+    {
+        match self.stream.front() {
+            Front::Whole { body, .. } => body,
+            _ => &[],
+        }
+    }
+
+    /// Drops the clipboard message that stands in front, after `turn` answered ClipWhole or ClipOver.
+    pub fn clip_done(&mut self)
+        requires { HasClip self.old.stream }
+        ensures kept { self.new ≡ with_stream self.new.stream self.old }
+        ensures drops { DropsUnit self.old.stream self.new.stream }
+        ensures greeted { self.new.stream.greeted ≡ true }
+    {
+        self.stream.drop_front();
+    }
+
+    /// Ends the session for a cause that comes from outside its bytes. The guest's windows are gone.
+    pub fn end(&mut self, cause: Cause)
+        ensures { IsEnded self.old cause self.new }
+    {
+        self.rows.clear();
+        self.ended = Some(cause);
+    }
+
+    /// Why the session ended, `None` exactly while it hasn't.
+    pub fn ended(&self) -> Option<Cause>
+        ensures { result ≡ self.now.ended }
+    {
+        self.ended
+    }
+
+    /// How many windows the guest has.
+    pub fn count(&self) -> u32
+        ensures is { result ≡ length self.now.rows }
+        ensures sound { HasRows self.now }
+    {
+        self.rows.count()
+    }
+
+    /// What is kept of a window, `None` exactly where the guest has no such window.
+    pub fn pane(&self, window: u32) -> Option<&Pane>
+        ensures is { MatchOption result (row_with window self.now.rows ≡ None) (λ pane. ShowsRow window self.now.rows pane.now) }
+        ensures place { IfSome result (λ pane. IsPlace pane.now.place) }
+        ensures sound { HasRows self.now }
+    {
+        self.rows.pane(window)
+    }
+}

@@ -1,0 +1,20 @@
+// What a turn of a session did.
+use desk_laws::Cause;
+use gui_num::Rect;
+
+/// What a turn of a session did.
+#[derive(Clone, Copy, Debug, PartialEq, Eq)]
+pub enum Turn {
+    /// No whole message, word or fault is there.
+    Wait,
+    /// A message, or the version word, had its effect and was answered. `window` is that of the
+    /// message's header, 0 for the version word. `drawn` is what was read of the window's pixels; so
+    /// far no pixels are read, and it is None.
+    Changed { window: u32, drawn: Option<Rect> },
+    /// Clipboard data of at most 65,000 bytes stands in front.
+    ClipWhole,
+    /// Clipboard data of 65,001 to 256,000 bytes stands in front, whose bytes weren't kept.
+    ClipOver,
+    /// The session ended: the guest's windows are gone.
+    Ended(Cause),
+}

@@ -1,0 +1,149 @@
+// One unit of a guest's bytes, taken.
+ghost use Rattle.std.specs.Prelude.{◌≡◌, ℕ, ◌≤◌, List, [], true, false, None};
+ghost use Rattle.desk_laws.specs.Sizes.{Sizes};
+ghost use Rattle.desk_laws.specs.Stream as cut;
+ghost use Rattle.in_stream.specs.Received.{StandsFor};
+ghost use Rattle.guest_session.specs.Numbers.{sizes_in};
+ghost use Rattle.guest_session.specs.Parts.{joined};
+ghost use Rattle.guest_session.specs.Parts as parts;
+ghost use Rattle.guest_session.specs.Turns.{Turns};
+
+use crate::Turn;
+use crate::numbers::Numbers;
+use crate::obey::take;
+use crate::replies::greet;
+use crate::rows::Rows;
+use desk_laws::Cause;
+use gui_wire::WireFault;
+use in_stream::{Front, InStream};
+use io_ports::Outlet;
+
+// The type of clipboard data.
+const CLIPBOARD_DATA: u32 = 140;
+
+// The cause of a header's fault.
+fn cause_of(fault: WireFault) -> Cause
+    ensures { result ≡ parts.cause_of fault }
+{
+    match fault {
+        WireFault::Kind(kind) => Cause::BadType { a: kind, b: 0 },
+        WireFault::Length(len) => Cause::BadLength { a: len, b: 0 },
+    }
+}
+
+// Ends a session for a cause: its windows are gone.
+fn refuse(rows: &mut Rows, cause: Cause) -> Turn
+    ensures answer { result ≡ Turn.Ended cause }
+    ensures rows { rows.new ≡ record rows.old { rows = [] } }
+{
+    rows.clear();
+    Turn::Ended(cause)
+}
+
+// Takes the version word, whose upper half is the major version, and answers it.
+fn take_word<O: Outlet>(
+    stream: &mut InStream,
+    rows: &mut Rows,
+    numbers: &Numbers,
+    minor: &mut u32,
+    out: &mut O,
+) -> Turn
+    requires greeted { stream.old.greeted ≡ false }
+    requires wide { numbers.now.width ≤ 8192 }
+    requires high { numbers.now.height ≤ 8192 }
+    ensures pages { rows.new.pages ≡ rows.old.pages }
+    ensures turned { (rest : List ℕ) → StandsFor stream.old rest → Turns O.takes out.old out.new
+        (joined (sizes_in numbers.now) stream.old rows.old minor.old None)
+        (joined (sizes_in numbers.now) stream.new rows.new minor.new (parts.ended_by result))
+        result (cut.front false rest) }
+{
+    let Some(word) = stream.word() else {
+        return Turn::Wait;
+    };
+    if word / 0x1_0000 != 1 {
+        return refuse(rows, Cause::BadVersion { a: word, b: 0 });
+    }
+    stream.drop_word();
+    *minor = word % 0x1_0000;
+    greet(rows.guest(), numbers, *minor, out);
+    Turn::Changed {
+        window: 0,
+        drawn: None,
+    }
+}
+
+// Takes what stands in front behind the version word: a message, a fault, or nothing whole.
+// Clipboard data stays.
+fn take_front<O: Outlet>(stream: &mut InStream, rows: &mut Rows, minor: u32, out: &mut O) -> Turn
+    requires greeted { stream.old.greeted ≡ true }
+    ensures pages { rows.new.pages ≡ rows.old.pages }
+    ensures turned { (sizes : Sizes) → sizes.pages ≡ rows.old.pages → (rest : List ℕ) → StandsFor stream.old rest → Turns O.takes out.old out.new
+        (joined sizes stream.old rows.old minor None)
+        (joined sizes stream.new rows.new minor (parts.ended_by result))
+        result (cut.front true rest) }
+{
+    match stream.front() {
+        Front::Whole { header, body } => {
+            if header.kind == CLIPBOARD_DATA {
+                return Turn::ClipWhole;
+            }
+            match take(rows, minor, header, body, out) {
+                Ok(()) => {
+                    stream.drop_front();
+                    Turn::Changed {
+                        window: header.window,
+                        drawn: None,
+                    }
+                }
+                Err(cause) => refuse(rows, cause),
+            }
+        }
+        Front::Bad { fault, .. } => refuse(rows, cause_of(fault)),
+        Front::ClipLong { header } => {
+            refuse(
+                rows,
+                Cause::ClipTooLong {
+                    a: header.len,
+                    b: 0,
+                },
+            )
+        }
+        Front::Skipped { .. } => Turn::ClipOver,
+        Front::Skipping { .. } => Turn::Wait,
+        Front::Need { .. } => Turn::Wait,
+    }
+}
+
+// Takes what stands in front: the version word first, then messages.
+pub(crate) fn take_unit<O: Outlet>(
+    stream: &mut InStream,
+    rows: &mut Rows,
+    numbers: &Numbers,
+    minor: &mut u32,
+    out: &mut O,
+) -> Turn
+    requires wide { numbers.now.width ≤ 8192 }
+    requires high { numbers.now.height ≤ 8192 }
+    requires pages { numbers.now.pages ≡ rows.old.pages }
+    ensures pages { numbers.now.pages ≡ rows.new.pages }
+    ensures turned { (rest : List ℕ) → StandsFor stream.old rest → Turns O.takes out.old out.new
+        (joined (sizes_in numbers.now) stream.old rows.old minor.old None)
+        (joined (sizes_in numbers.now) stream.new rows.new minor.new (parts.ended_by result))
+        result (cut.front stream.old.greeted rest) }
+{
+    if stream.greeted() {
+        take_front(stream, rows, *minor, out)
+    } else {
+        take_word(stream, rows, numbers, minor, out)
+    }
+}
+
+// Why a turn ended the session, if it did.
+pub(crate) fn ended_by(turn: Turn) -> Option<Cause>
+    ensures { result ≡ parts.ended_by turn }
+{
+    match turn {
+        Turn::Ended(cause) => Some(cause),
+        _ => None,
+    }
+}

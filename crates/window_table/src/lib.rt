@@ -1,0 +1,13 @@
+//! The windows of one guest, at most 1024. All memory that a table ever needs is taken as it is made.
+#![tactic(auto)]
+
+mod held;
+mod pane;
+mod ref_lists;
+mod table;
+
+pub use pane::{DumpSize, Pane};
+pub use table::Table;
+
+#[cfg(test)]
+mod tests;
