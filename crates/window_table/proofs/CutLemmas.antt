@@ -2,7 +2,7 @@
 use Rattle.std.proofs.Common.{◌≡◌, ℕ, zero, suc, ◌+◌, ◌-◌, ◌^◌, ◌<◌, ◌≤◌, List, [], ◌∷◌, length, get_or, set, take, drop, replicate, sum_by, refl, sym, ap, ◌∙◌, subst, arith, length-drop}
 use Rattle.std.proofs.lemmas.List.{length-take-le, get_or-take, get_or-drop}
 use Rattle.std.proofs.lemmas.List.Sums.{sum_by-set}
-use Rattle.window_table.specs.Parts.{parts, RisesFrom, last_place, AreCuts, moved, moved_after, spliced}
+use Rattle.window_table.specs.Parts.{RefListsView, parts, RisesFrom, last_place, AreCuts, moved, moved_after, spliced}
 use Rattle.window_table.proofs.PlaceLemmas.{get_or-moved_before, last-moved, length-moved_after, rises-le, rises-le_last, rises-moved}
 use Rattle.window_table.proofs.PartLemmas.{get_or-parts, length-parts, length-spliced, parts-set, sum-parts}
 
@@ -163,3 +163,9 @@ module _ (items places new : List ℕ) (pages slot : ℕ) (cuts : AreCuts items 
       let same : suc slot ≡ slot + 1 = omega arith in
       parts-set items new (get_or places slot 0) (get_or places (slot + 1) 0) exchange-from exchange-to slot 0 places cuts.rising
       (omega arith) refl (ap (λ n. get_or places n 0) same)
+
+-- ---- what a caller sees of the lists
+
+pub seen-as : (pages : ℕ) (lists lists' : List (List ℕ)) (view : RefListsView) → lists ≡ lists' →
+    record { pages = pages; lists = lists' } ≡ view → record { pages = pages; lists = lists } ≡ view
+seen-as pages lists lists' view e f = ap (λ ls. record { pages = pages; lists = ls }) e ∙ f
