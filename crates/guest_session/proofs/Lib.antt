@@ -6,3 +6,4 @@ pub mod HeadLemmas
 pub mod ObeyLemmas
 pub mod FrontFacts
 pub mod TurnLemmas
+pub mod CallerLemmas

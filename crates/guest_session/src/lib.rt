@@ -11,6 +11,8 @@ mod obey;
 mod replies;
 mod rows;
 mod session;
+#[cfg(test)]
+mod tests;
 mod text;
 mod turn;
 mod units;
