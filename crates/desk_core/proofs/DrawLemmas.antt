@@ -14,7 +14,7 @@ use Rattle.gui_num.specs.declared.Rect.{Rect}
 use Rattle.gui_num.specs.Rects.{has, grown, on_side}
 use Rattle.desk_laws.specs.declared.row_id.RowId.{RowId}
 use Rattle.desk_laws.specs.declared.setup.Setup.{Setup}
-use Rattle.desk_laws.specs.Rows.{Row, id_of, same_row, is_shown, is_hidden, outer, row_at, row_with}
+use Rattle.desk_laws.specs.Rows.{Row, id_of, same_row, is_shown, outer, row_at, row_with}
 use Rattle.desk_laws.specs.Layers.{Layers, last_that, is_in, layer_of}
 use Rattle.desk_laws.specs.Picture.{pixels, colour_by, colour_read, label_of}
 use Rattle.desk_laws.specs.Following.{LayersFollow}
@@ -24,7 +24,7 @@ use Rattle.desk_laws.proofs.IdLemmas.{same_row-is}
 use Rattle.desk_laws.proofs.FollowChanges.{row_with-mine, mine-whole}
 use Rattle.window_table.specs.declared.pane.Pane.{Pane}
 use Rattle.guest_session.specs.SessionView.{AreRows}
-use Rattle.guest_session.specs.Panes.{IsPaneOf, ShowsRow}
+use Rattle.guest_session.specs.Panes.{ShowsRow}
 use Rattle.desk_core.specs.Drawing.{colour_under, is_shown_pane}
 use Rattle.desk_core.specs.Stacked.{id_in, layer_in}
 

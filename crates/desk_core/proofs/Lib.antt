@@ -1,6 +1,5 @@
 pub mod PictureLemmas
 pub mod PostLemmas
-pub mod FollowSame
 pub mod StandLemmas
 pub mod TurnLemmas
 pub mod PieceLemmas

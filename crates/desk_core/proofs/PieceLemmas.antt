@@ -1,10 +1,10 @@
 -- A piece of a guest's bytes, unit by unit.
-use Rattle.std.proofs.Common.{◌≡◌, ℕ, ◌==◌, ◌∷◌, Bool, true, false, is_some, List, [], ◌++◌, Option, Some, None, refl, sym, ◌∙◌, ap, subst, length, ◌<◌, arith}
+use Rattle.std.proofs.Common.{◌≡◌, ℕ, ◌==◌, ◌∷◌, true, false, is_some, List, [], ◌++◌, Option, Some, None, refl, sym, ◌∙◌, ap, subst, length, ◌<◌, arith}
 use Rattle.std.proofs.lemmas.Bool.{eqb-true}
 use Rattle.std.proofs.lemmas.List.{append-nil, append_assoc}
 use Rattle.desk_laws.specs.declared.cause.Cause.{Cause}
 use Rattle.desk_laws.specs.declared.setup.Setup.{Setup}
-use Rattle.desk_laws.specs.Stream.{StreamUnit, Wait, front, Cut, cut}
+use Rattle.desk_laws.specs.Stream.{Wait, front, Cut, cut}
 use Rattle.desk_laws.specs.Scene.{Post, Ended, Input, GuestInput}
 use Rattle.desk_laws.specs.State.{DeskState, Session, StepOutcome, GuestLoad, session_of, with_session, stays, step_after}
 use Rattle.desk_laws.specs.Steps.{take_units, take_bytes, bytes_of_open, take_cut, rest_of_open, end_session, end_of_open, ends}
@@ -15,7 +15,7 @@ use Rattle.in_stream.specs.Received.{StandsFor}
 use Rattle.guest_session.specs.SessionView.{SessionView}
 use Rattle.desk_core.specs.DeskView.{DeskView}
 use Rattle.desk_core.specs.DeskPosts.{guest_posts}
-use Rattle.desk_core.specs.DeskStands.{StandsWith, Stands, LeadsTo, StepsTo}
+use Rattle.desk_core.specs.DeskStands.{StandsWith, Stands, StepsTo}
 use Rattle.desk_core.specs.PieceSteps.{taken_from, TookSome, IsAlong, Settled}
 use Rattle.desk_core.proofs.PostLemmas.{leads-append, guest-append}
 use Rattle.desk_core.proofs.StandLemmas.{rest-with, pushed-with, held-over}

@@ -1,10 +1,10 @@
 -- How a desk keeps standing for a state.
-use Rattle.std.proofs.Common.{◌≡◌, ℕ, ◌+◌, ◌-◌, ◌<◌, ◌≤◌, ◌^◌, Bool, true, false, ◌||◌, List, [], ◌++◌, length, get_or, Some, None, replicate, refl, sym, ◌∙◌, ap, subst, arith, length-set}
+use Rattle.std.proofs.Common.{◌≡◌, ℕ, ◌+◌, ◌-◌, ◌<◌, ◌≤◌, ◌^◌, Bool, false, ◌||◌, List, [], ◌++◌, length, get_or, Some, None, replicate, refl, sym, ◌∙◌, ap, subst, arith, length-set}
 use Rattle.std.proofs.lemmas.List.{length-replicate}
 use Rattle.std.proofs.lemmas.List.Elements.{All-nil}
 use Rattle.desk_laws.specs.declared.cause.Cause.{Cause}
 use Rattle.desk_laws.specs.declared.setup.Setup.{Setup}
-use Rattle.desk_laws.specs.Stream.{StreamUnit, front, Wait, is_greeting}
+use Rattle.desk_laws.specs.Stream.{StreamUnit, front, is_greeting}
 use Rattle.desk_laws.specs.Rows.{Row, mine, row_at}
 use Rattle.desk_laws.specs.Layers.{Layers, no_layers, followed}
 use Rattle.desk_laws.specs.Frames.{counted}
@@ -19,7 +19,7 @@ use Rattle.desk_laws.proofs.FollowChanges.{lists-follow_one, lists-follow_end, m
 use Rattle.in_stream.specs.Received.{StandsFor}
 use Rattle.guest_session.specs.SessionView.{SessionView, AreRows, IsEnded, opened}
 use Rattle.desk_core.specs.DeskView.{DeskView}
-use Rattle.desk_core.specs.DeskStands.{StandsWith, Stands, HasNumbers, IsOpen, item_counted}
+use Rattle.desk_core.specs.DeskStands.{StandsWith, Stands, HasNumbers, item_counted}
 use Rattle.desk_core.specs.Kept.{IsKept}
 use Rattle.desk_core.specs.Stacked.{id_in}
 

@@ -1,9 +1,8 @@
 -- What each answer of a turn says of the desk.
-use Rattle.std.proofs.Common.{◌≡◌, ℕ, ◌+◌, ◌≤◌, ◌<◌, Bool, true, false, ◌==◌, List, [], length, Option, Some, None, refl, sym, ◌∙◌, ap, subst, arith, ◌⊎◌, inl, inr}
+use Rattle.std.proofs.Common.{◌≡◌, ℕ, ◌+◌, ◌≤◌, ◌<◌, Bool, true, false, List, length, Option, Some, None, refl, sym, ◌∙◌, ap, subst, arith, ◌⊎◌, inl, inr}
 use Rattle.std.specs.Prelude.{if◌then◌else◌}
 use Rattle.std.proofs.lemmas.Bool.{eqb-true}
 use Rattle.gui_num.specs.declared.Rect.{Rect}
-use Rattle.gui_wire.specs.declared.Header.{Header}
 use Rattle.desk_laws.specs.declared.cause.Cause.{Cause}
 use Rattle.desk_laws.specs.declared.row_id.RowId.{RowId}
 use Rattle.desk_laws.specs.declared.setup.Setup.{Setup}
@@ -17,7 +16,7 @@ use Rattle.desk_laws.specs.Following.{after_row, without_guest}
 use Rattle.desk_laws.specs.Scene.{Post, Ended}
 use Rattle.desk_laws.specs.State.{DeskState}
 use Rattle.desk_laws.specs.Steps.{messages_of}
-use Rattle.in_stream.specs.Received.{Received, StandsFor}
+use Rattle.in_stream.specs.Received.{StandsFor}
 use Rattle.in_stream.specs.Taking.{DropsUnit}
 use Rattle.guest_session.specs.declared.turn.Turn.{Turn}
 use Rattle.guest_session.specs.declared.turn.Turn.TheVariants as turns
@@ -29,7 +28,7 @@ use Rattle.desk_core.specs.DeskStands.{StandsWith}
 use Rattle.desk_core.specs.Kept.{IsKept}
 use Rattle.desk_core.specs.PieceSteps.{TookSome, Settled}
 use Rattle.desk_core.specs.Stacked.{id_in, layer_in, after_layer}
-use Rattle.desk_core.proofs.FollowSame.{listed-few}
+use Rattle.desk_laws.proofs.FollowChanges.{follow-few}
 use Rattle.desk_core.proofs.StandLemmas.{moved}
 use Rattle.desk_core.proofs.TurnLemmas.{IsClipTurn, ShownClip, shown-clip, stays-took, turn-changed, turn-ended, turn-waits, turn-shorter, shorter-behind, clip-took, counted-unit, not-changed-clip, not-ended}
 
@@ -119,7 +118,7 @@ module _ {O : Type 0} (takes : O → Post → O → Type 0) (out out' : O) (setu
       let messages = counted (desk.messages + (if desk.session.stream.greeted then 1 else 0)) in
       let took = exit-changed window drawn desk.session.stream.greeted layer layers messages turned over own in_layer refl (λ _. refl) refl in
       let s = took.leads.0 in
-      omega (arith, listed-few new.rows layers s.own.apart s.followed, s.own.few, roomy)
+      omega (arith, follow-few new.rows layers s.followed s.own.apart, s.own.few, roomy)
 
   pub exit-fewer : (window : ℕ) (drawn : Option Rect) → Turned takes out out' desk.session new (turns.Changed window drawn) → Over out out' desk.session new (turns.Changed window drawn)
       → length new.stream.held + new.stream.skipped < length desk.session.stream.held + desk.session.stream.skipped

@@ -1,9 +1,7 @@
 -- One turn of the session, from the definitions to the desk.
-use Rattle.std.proofs.Common.{◌≡◌, ℕ, ◌+◌, ◌/◌, ◌%◌, Bool, true, false, ◌||◌, ◌==◌, nat_le, length, drop, take, ◌≤◌, List, [], ◌∷◌, ◌++◌, Option, Some, None, refl, sym, ◌∙◌, ap, subst, arith, ◌<◌, length-append, length-take, length-drop}
+use Rattle.std.proofs.Common.{◌≡◌, ℕ, ◌+◌, ◌/◌, ◌%◌, Bool, true, false, ◌==◌, length, drop, take, ◌≤◌, List, [], ◌∷◌, ◌++◌, Option, Some, None, refl, sym, ◌∙◌, ap, subst, arith, ◌<◌, length-append, length-take, length-drop}
 use Rattle.std.specs.Prelude.{if◌then◌else◌, nat_lt}
 use Rattle.std.proofs.lemmas.Bool.{eqb-true, ltb-false}
-use Rattle.std.proofs.lemmas.Bool.Decides.{nat_tests}
-use Rattle.std.proofs.lemmas.List.{append-nil}
 use Rattle.gui_wire.specs.AgentMessages.{reading}
 use Rattle.gui_wire.specs.Words.{word_at}
 use Rattle.gui_wire.specs.Headers.{header_at}
@@ -16,11 +14,11 @@ use Rattle.desk_laws.specs.Sizes.{Sizes, sizes_of}
 use Rattle.desk_laws.specs.Stream as stream
 use Rattle.desk_laws.specs.Stream.{StreamUnit, Word, Stop, Whole, Front, Fault, Takes, front, front_of, head_fault, front_by, Cut, cut, is_greeting}
 use Rattle.desk_laws.specs.Rows.{Row, mine, row_at}
-use Rattle.desk_laws.specs.Layers.{Layers, followed}
+use Rattle.desk_laws.specs.Layers.{Layers}
 use Rattle.desk_laws.specs.Frames.{counted}
 use Rattle.desk_laws.specs.Effects.{Change, Same, Goes, Greets, Ends, Reads, Verdict, verdict, greeting, message_verdict, changed}
 use Rattle.desk_laws.specs.Following.{ChangesOne, after_row, without_guest}
-use Rattle.desk_laws.specs.Scene.{Post, Ended, Input, Took, replies}
+use Rattle.desk_laws.specs.Scene.{Post, Ended, Took, replies}
 use Rattle.desk_laws.specs.State.{DeskState, StepOutcome, session_of, stays, step_after}
 use Rattle.desk_laws.specs.Steps.{take_unit, take_units, unit_done, ends, went, messages_of}
 use Rattle.desk_laws.proofs.ChangeLemmas.{messages-change_one}
@@ -34,13 +32,13 @@ use Rattle.guest_session.specs.declared.turn.Turn.{Turn}
 use Rattle.guest_session.specs.declared.turn.Turn.TheVariants as turns
 use Rattle.guest_session.specs.SessionView.{SessionView, AreRows, IsEnded, with_stream}
 use Rattle.guest_session.specs.Clips.{is_clip}
-use Rattle.guest_session.specs.Turns.{Turns, TakesUnit, Decides, HadEffect, clip_turn, window_of}
+use Rattle.guest_session.specs.Turns.{Turns, TakesUnit, Decides, HadEffect, window_of}
 use Rattle.desk_core.specs.DeskView.{DeskView}
 use Rattle.desk_core.specs.DeskPosts.{guest_posts}
 use Rattle.desk_core.specs.DeskStands.{StandsWith, LeadsTo}
 use Rattle.desk_core.specs.PieceSteps.{TookSome, taken_from}
 use Rattle.desk_core.specs.Stacked.{id_in}
-use Rattle.desk_core.proofs.FollowSame.{followed-same}
+use Rattle.desk_laws.proofs.FollowChanges.{followed-same}
 use Rattle.desk_core.proofs.PostLemmas.{guest-answers}
 use Rattle.desk_core.proofs.StandLemmas.{moved, HadUnit, HadLists, went-stands, went-rest, ends-stands, lists-after}
 
@@ -276,7 +274,7 @@ clip-took takes out setup held behind desk new messages state unit stands going 
     let rows : s.rows ≡ new.rows = sym (ap (λ (x : SessionView). x.rows) same) in
     let L : List Row → Type 0 = λ rs. HadLists rs desk.layers desk.layers in
     let lists : HadLists s.rows desk.layers desk.layers =
-    record { lists = followed-same s.rows desk.layers stands.own.apart stands.followed; follow = stands.followed; own = stands.own } in
+    record { lists = followed-same s.rows desk.layers stands.followed; follow = stands.followed; own = stands.own } in
     went-took takes out out setup held behind desk new desk.layers messages state unit (Goes Same []) [] stands going is
     (clip-verdict s.sizes s.guest s.minor s.rows unit clip) refl refl
     (record {

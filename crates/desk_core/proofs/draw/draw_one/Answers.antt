@@ -1,4 +1,4 @@
-use Rattle.std.proofs.Common.{◌≡◌, ◌∙◌, ℕ, map, Some, None, ap, sym, subst}
+use Rattle.std.proofs.Common.{◌∙◌, ℕ, subst}
 use Rattle.desk_laws.specs.Picture.{pixels}
 use Rattle.guest_session.specs.SessionView.{AreRows}
 use Rattle.desk_core.proofs.DrawLemmas.{map-agree, window-over, none-over, at-window}

@@ -1,4 +1,4 @@
-use Rattle.std.proofs.Common.{◌≡◌, ◌∙◌, ℕ, ◌+◌, ◌++◌, [], ◌∷◌, length, take, List, map, ap, refl, sym, arith}
+use Rattle.std.proofs.Common.{◌∙◌, ◌++◌, [], ◌∷◌, take, List, map, ap, refl, sym, arith}
 use Rattle.desk_laws.specs.declared.row_id.RowId.{RowId}
 use Rattle.desk_laws.specs.Picture.{pixels}
 use Rattle.desk_core.specs.Drawing.{colour_under}

@@ -1,6 +1,5 @@
-use Rattle.std.proofs.Common.{◌≡◌, ◌∙◌, ℕ, Some, None, ap, refl, sym, subst}
+use Rattle.std.proofs.Common.{◌∙◌, ℕ, Some, None, ap, refl, sym, subst}
 use Rattle.std.specs.Prelude.{if◌then◌else◌}
-use Rattle.desk_laws.specs.Rows.{row_at}
 use Rattle.guest_session.specs.SessionView.{AreRows}
 use Rattle.desk_core.specs.Stacked.{id_in, layer_in}
 use Rattle.desk_core.proofs.DrawLemmas.{at-window, pane-layer}

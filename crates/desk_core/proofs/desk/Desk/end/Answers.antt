@@ -1,5 +1,4 @@
-use Rattle.std.proofs.Common.{◌≡◌, ◌∙◌, ℕ, List, Option, None, is_some, false, refl, sym, ap, subst}
-use Rattle.desk_laws.specs.declared.cause.Cause.{Cause}
+use Rattle.std.proofs.Common.{◌≡◌, ◌∙◌, None, is_some, sym, ap, subst}
 use Rattle.desk_laws.specs.declared.setup.Setup.{Setup}
 use Rattle.desk_laws.specs.Scene.{Input}
 use Rattle.desk_laws.specs.State.{DeskState}
@@ -9,7 +8,7 @@ use Rattle.desk_core.specs.DeskView.{DeskView}
 use Rattle.desk_core.specs.DeskStands.{Stands, StepsTo}
 use Rattle.desk_core.specs.Kept.{IsKept}
 use Rattle.desk_core.proofs.StandLemmas.{ends-kept, ends-stands}
-use Rattle.desk_core.proofs.PieceLemmas.{ended-now, ended-stays, not-some, some-of}
+use Rattle.desk_core.proofs.PieceLemmas.{ended-now, not-some}
 use Rattle.desk_core.proofs.desk.Desk.end.Goals as goal
 
 pub invariant_of-self : goal.invariant_of-self

@@ -1,14 +1,12 @@
-use Rattle.std.proofs.Common.{◌≡◌, ◌∙◌, ℕ, ◌+◌, ◌<◌, length, true, None, List, refl, sym, ap, subst}
+use Rattle.std.proofs.Common.{◌∙◌, ℕ, ◌+◌, ◌<◌, length, true, List, refl, sym, ap, subst}
 use Rattle.desk_laws.specs.declared.setup.Setup.{Setup}
 use Rattle.desk_laws.specs.State.{DeskState}
-use Rattle.desk_laws.specs.Following.{without_guest}
 use Rattle.stacking.specs.Stacked.{Stacked}
 use Rattle.guest_session.specs.SessionView.{SessionView}
 use Rattle.desk_core.specs.DeskView.{DeskView}
 use Rattle.desk_core.specs.DeskStands.{StandsWith}
 use Rattle.desk_core.specs.Kept.{IsKept}
 use Rattle.desk_core.specs.PieceSteps.{TookSome, Settled, held_by}
-use Rattle.desk_core.proofs.StandLemmas.{moved}
 use Rattle.desk_core.proofs.TurnExits.{exit-guest, exit-changed, exit-room, exit-fewer, exit-has_clip, exit-clip, exit-clip_fewer, exit-greeted, exit-ended, exit-stays, exit-settled, exit-waits, exit-over, clip-busy, took-kept}
 use Rattle.desk_core.proofs.desk.Desk.take_turn.Goals as goal
 
