@@ -3,6 +3,7 @@
 
 use crate::tests::{CONFIG, GREETING, TAIL, gives, joined, picture, summary};
 use std::alloc::Global;
+use std::process::Abort;
 use std::test::Fail;
 
 const VERSION: [u8; 4] = [7, 0, 1, 0];
@@ -41,7 +42,8 @@ fn said(alloc: Global, numbers: &[&[u32]]) -> Result<Vec<u8>, Fail> {
     let mut piece = Vec::new(alloc);
     piece.extend_from_slice(&VERSION)?;
     for some in numbers {
-        piece.extend_from_slice(&spelled(alloc, some)?)?;
+        let bytes = spelled(alloc, some)?;
+        piece.extend_from_slice(&bytes)?;
     }
     item(alloc, &piece)
 }
@@ -55,10 +57,8 @@ fn ended(cause: u8, a: u32, b: u32) -> [u8; 11] {
 
 // A Reply record of guest 0, with so many bytes that these numbers spell.
 fn reply(alloc: Global, len: u32, numbers: &[u32]) -> Result<Vec<u8>, Fail> {
-    joined(
-        alloc,
-        &[&[1, 0], &len.to_le_bytes(), &spelled(alloc, numbers)?],
-    )
+    let bytes = spelled(alloc, numbers)?;
+    joined(alloc, &[&[1, 0], &len.to_le_bytes(), &bytes])
 }
 
 fn no_window(alloc: Global) -> Result<Vec<u8>, Fail> {
@@ -68,12 +68,13 @@ fn no_window(alloc: Global) -> Result<Vec<u8>, Fail> {
 #[test]
 fn one_byte_at_a_time(rt: HostRuntime) -> Result<(), Fail> {
     let alloc = rt.alloc();
+    let create = spelled(alloc, &CREATE)?;
+    let map = spelled(alloc, &MAP)?;
+    let stream = joined(alloc, &[&VERSION, &create, &map])?;
     let mut items = Vec::new(alloc);
-    for byte in VERSION {
-        items.extend_from_slice(&item(alloc, &[byte])?)?;
-    }
-    for byte in &joined(alloc, &[&spelled(alloc, &CREATE)?, &spelled(alloc, &MAP)?])? {
-        items.extend_from_slice(&item(alloc, &[*byte])?)?;
+    for byte in &stream {
+        let one = item(alloc, &[*byte])?;
+        items.extend_from_slice(&one)?;
     }
     let shown = picture(
         alloc,
@@ -92,85 +93,106 @@ fn one_byte_at_a_time(rt: HostRuntime) -> Result<(), Fail> {
     )
 }
 
-// The field 3 of a CREATE is its width. A CONFIGURE is brought into range and answered.
+// The field 3 of a CREATE is its width.
 #[test]
 fn width_out_of_range(rt: HostRuntime) -> Result<(), Fail> {
     let alloc = rt.alloc();
-    let wide = [130, 1, 24, 2, 2, 0x8000_0000, 2, 0, 0];
+    let said = said(alloc, &[&[130, 1, 24, 2, 2, 0x8000_0000, 2, 0, 0]])?;
+    let shown = no_window(alloc)?;
+    let ended = ended(4, 3, 2_147_483_648);
     gives(
         &rt,
         alloc,
-        &[&CONFIG, &said(alloc, &[&wide])?, &TAIL],
-        &[
-            &GREETING,
-            &ended(4, 3, 2_147_483_648),
-            &no_window(alloc)?,
-            &summary(3, 0),
-        ],
-    )?;
-    let configure = [134, 1, 20, 0, 0, 20_000, 10, 0];
-    let answer = reply(alloc, 32, &[134, 1, 20, 0, 0, 16_384, 10, 0])?;
-    gives(
-        &rt,
-        alloc,
-        &[&CONFIG, &said(alloc, &[&CREATE, &configure])?, &TAIL],
-        &[&GREETING, &answer, &no_window(alloc)?, &summary(3, 2)],
+        &[&CONFIG, &said, &TAIL],
+        &[&GREETING, &ended, &shown, &summary(3, 0)],
     )
 }
 
-// Four pages, and a window of 10 by 10 whose dump has one reference.
+// A window is at most 16,384 pixels wide, and is told so.
+#[test]
+fn width_brought_into_range(rt: HostRuntime) -> Result<(), Fail> {
+    let alloc = rt.alloc();
+    let said = said(alloc, &[&CREATE, &[134, 1, 20, 0, 0, 20_000, 10, 0]])?;
+    let answer = reply(alloc, 32, &[134, 1, 20, 0, 0, 16_384, 10, 0])?;
+    let shown = no_window(alloc)?;
+    gives(
+        &rt,
+        alloc,
+        &[&CONFIG, &said, &TAIL],
+        &[&GREETING, &answer, &shown, &summary(3, 2)],
+    )
+}
+
+// A window of 10 by 10, whose dump needs one page of the four that there are.
+const TEN_BY_TEN: [u32; 9] = [130, 1, 24, 0, 0, 10, 10, 0, 0];
+
+// The session ends at a dump of that window, with this cause.
+fn ends_at_dump(rt: &impl Abort, alloc: Global, dump: &[u32], ended: &[u8]) -> Result<(), Fail> {
+    let config = config_of_four_pages();
+    let said = said(alloc, &[&TEN_BY_TEN, dump])?;
+    let shown = no_window(alloc)?;
+    gives(
+        rt,
+        alloc,
+        &[&config, &said, &TAIL],
+        &[&GREETING, ended, &shown, &summary(3, 1)],
+    )
+}
+
 #[test]
 fn dump_references(rt: HostRuntime) -> Result<(), Fail> {
     let alloc = rt.alloc();
-    let config = config_of_four_pages();
-    let create = [130, 1, 24, 0, 0, 10, 10, 0, 0];
     let past_the_pages = [147, 1, 20, 0, 10, 10, 32, 4];
-    gives(
-        &rt,
-        alloc,
-        &[&config, &said(alloc, &[&create, &past_the_pages])?, &TAIL],
-        &[&GREETING, &ended(8, 4, 4), &no_window(alloc)?, &summary(3, 1)],
-    )?;
+    ends_at_dump(&rt, alloc, &past_the_pages, &ended(8, 4, 4))?;
     let sixteen_bits = [147, 1, 20, 0, 10, 10, 16, 3];
-    gives(
-        &rt,
-        alloc,
-        &[&config, &said(alloc, &[&create, &sixteen_bits])?, &TAIL],
-        &[&GREETING, &ended(4, 4, 16), &no_window(alloc)?, &summary(3, 1)],
-    )?;
+    ends_at_dump(&rt, alloc, &sixteen_bits, &ended(4, 4, 16))
+}
+
+// A dump is acknowledged to an agent of version 1.7, and isn't to one of version 1.6.
+#[test]
+fn dump_acknowledged(rt: HostRuntime) -> Result<(), Fail> {
+    let alloc = rt.alloc();
+    let config = config_of_four_pages();
     let accepted = [147, 1, 20, 0, 10, 10, 32, 3];
+    let said = said(alloc, &[&TEN_BY_TEN, &accepted])?;
     let answer = reply(alloc, 12, &[149, 1, 0])?;
+    let shown = no_window(alloc)?;
     gives(
         &rt,
         alloc,
-        &[&config, &said(alloc, &[&create, &accepted])?, &TAIL],
-        &[&GREETING, &answer, &no_window(alloc)?, &summary(3, 2)],
+        &[&config, &said, &TAIL],
+        &[&GREETING, &answer, &shown, &summary(3, 2)],
     )?;
-    let messages = joined(alloc, &[&spelled(alloc, &create)?, &spelled(alloc, &accepted)?])?;
-    let of_version_six = item(alloc, &joined(alloc, &[&[6, 0, 1, 0], &messages])?)?;
+    let create = spelled(alloc, &TEN_BY_TEN)?;
+    let dump = spelled(alloc, &accepted)?;
+    let stream = joined(alloc, &[&[6, 0, 1, 0], &create, &dump])?;
+    let of_version_six = item(alloc, &stream)?;
     gives(
         &rt,
         alloc,
         &[&config, &of_version_six, &TAIL],
-        &[&GREETING, &no_window(alloc)?, &summary(3, 2)],
+        &[&GREETING, &shown, &summary(3, 2)],
     )
 }
 
 #[test]
 fn window_limit(rt: HostRuntime) -> Result<(), Fail> {
     let alloc = rt.alloc();
-    let mut piece = Vec::new(alloc);
-    piece.extend_from_slice(&VERSION)?;
+    let mut stream = Vec::new(alloc);
+    stream.extend_from_slice(&VERSION)?;
     for window in 1..1026u32 {
-        piece.extend_from_slice(&spelled(alloc, &[130, window, 24, 0, 0, 1, 1, 0, 0])?)?;
+        let create = spelled(alloc, &[130, window, 24, 0, 0, 1, 1, 0, 0])?;
+        stream.extend_from_slice(&create)?;
     }
+    let windows = item(alloc, &stream)?;
+    let shown = no_window(alloc)?;
     let mut counts = summary(3, 0);
     counts[10] = 4;
     gives(
         &rt,
         alloc,
-        &[&CONFIG, &item(alloc, &piece)?, &TAIL],
-        &[&GREETING, &ended(7, 1025, 1024), &no_window(alloc)?, &counts],
+        &[&CONFIG, &windows, &TAIL],
+        &[&GREETING, &ended(7, 1025, 1024), &shown, &counts],
     )
 }
 
@@ -178,26 +200,27 @@ fn window_limit(rt: HostRuntime) -> Result<(), Fail> {
 #[test]
 fn early_ends(rt: HostRuntime) -> Result<(), Fail> {
     let alloc = rt.alloc();
+    let shown = no_window(alloc)?;
     let cut = item(alloc, &VERSION[..3])?;
     gives(
         &rt,
         alloc,
         &[&CONFIG, &cut, &[3, 0], &TAIL],
-        &[&ended(12, 0, 0), &no_window(alloc)?, &summary(4, 0)],
+        &[&ended(12, 0, 0), &shown, &summary(4, 0)],
     )?;
     let second = item(alloc, &[0, 0, 2, 0])?;
     gives(
         &rt,
         alloc,
         &[&CONFIG, &second, &[3, 0], &TAIL],
-        &[&ended(1, 131_072, 0), &no_window(alloc)?, &summary(4, 0)],
+        &[&ended(1, 131_072, 0), &shown, &summary(4, 0)],
     )?;
     let mapped = said(alloc, &[&CREATE, &MAP])?;
     gives(
         &rt,
         alloc,
         &[&CONFIG, &mapped, &[11, 0, 11, 0], &TAIL],
-        &[&GREETING, &ended(13, 0, 0), &no_window(alloc)?, &summary(5, 2)],
+        &[&GREETING, &ended(13, 0, 0), &shown, &summary(5, 2)],
     )
 }
 
@@ -205,20 +228,24 @@ fn early_ends(rt: HostRuntime) -> Result<(), Fail> {
 #[test]
 fn clipboard_data_passes(rt: HostRuntime) -> Result<(), Fail> {
     let alloc = rt.alloc();
+    let shown = no_window(alloc)?;
+    let too_long = said(alloc, &[&[140, 0, 256_001]])?;
     gives(
         &rt,
         alloc,
-        &[&CONFIG, &said(alloc, &[&[140, 0, 256_001]])?, &TAIL],
-        &[&GREETING, &ended(11, 256_001, 0), &no_window(alloc)?, &summary(3, 0)],
+        &[&CONFIG, &too_long, &TAIL],
+        &[&GREETING, &ended(11, 256_001, 0), &shown, &summary(3, 0)],
     )?;
     let head = said(alloc, &[&[140, 0, 65_001]])?;
-    let body = item(alloc, &vec![in alloc; 140u8; 65_001]?)?;
-    let behind = item(alloc, &spelled(alloc, &CREATE)?)?;
+    let data = vec![in alloc; 140u8; 65_001]?;
+    let body = item(alloc, &data)?;
+    let create = spelled(alloc, &CREATE)?;
+    let behind = item(alloc, &create)?;
     gives(
         &rt,
         alloc,
         &[&CONFIG, &head, &body, &behind, &TAIL],
-        &[&GREETING, &no_window(alloc)?, &summary(5, 2)],
+        &[&GREETING, &shown, &summary(5, 2)],
     )
 }
 
@@ -228,8 +255,10 @@ fn windows_go(rt: HostRuntime) -> Result<(), Fail> {
     let alloc = rt.alloc();
     let second = [130, 2, 24, 4, 2, 2, 2, 0, 0];
     let mapped = said(alloc, &[&CREATE, &MAP, &second, &[132, 2, 8, 0, 0]])?;
-    let unmapped = item(alloc, &spelled(alloc, &[133, 2, 0])?)?;
-    let destroyed = item(alloc, &spelled(alloc, &[131, 1, 0])?)?;
+    let unmap = spelled(alloc, &[133, 2, 0])?;
+    let unmapped = item(alloc, &unmap)?;
+    let destroy = spelled(alloc, &[131, 1, 0])?;
+    let destroyed = item(alloc, &destroy)?;
     let both = picture(
         alloc,
         b"........\
@@ -248,12 +277,13 @@ fn windows_go(rt: HostRuntime) -> Result<(), Fail> {
           .RRRR...\
           ........",
     )?;
+    let none = no_window(alloc)?;
     let mut counts = summary(7, 6);
     counts[25] = 144;
     gives(
         &rt,
         alloc,
         &[&CONFIG, &mapped, &[9], &unmapped, &[9], &destroyed, &TAIL],
-        &[&GREETING, &both, &first, &no_window(alloc)?, &counts],
+        &[&GREETING, &both, &first, &none, &counts],
     )
 }

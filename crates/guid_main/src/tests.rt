@@ -97,7 +97,12 @@ fn replayed(
 }
 
 // A whole run gives these bytes.
-pub(crate) fn gives(rt: &impl Abort, alloc: Global, record: &[&[u8]], wanted: &[&[u8]]) -> Result<(), Fail> {
+pub(crate) fn gives(
+    rt: &impl Abort,
+    alloc: Global,
+    record: &[&[u8]],
+    wanted: &[&[u8]],
+) -> Result<(), Fail> {
     let record = joined(alloc, record)?;
     let wanted = joined(alloc, wanted)?;
     let (status, output) = replayed(alloc, &record, &[], &[])?;
