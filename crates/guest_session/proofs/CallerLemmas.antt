@@ -1,5 +1,5 @@
 -- What a caller may conclude from a turn that answered ClipWhole: that the clipboard data may be read.
-use Rattle.std.proofs.Common.{◌≡◌, ℕ, ◌≤◌, Bool, true, false, cond, nat_le, List, length, refl, sym, ◌∙◌, ap, subst, eqb-true}
+use Rattle.std.proofs.Common.{◌≡◌, ℕ, ◌≤◌, Bool, true, false, cond, nat_le, List, length, refl, sym, ◌∙◌, subst, eqb-true}
 use Rattle.std.specs.Prelude.{◌==◌}
 use Rattle.std.proofs.lemmas.Bool.{leb-true}
 use Rattle.gui_wire.specs.declared.Header.{Header}
@@ -7,12 +7,12 @@ use Rattle.desk_laws.specs.Stream as cut
 use Rattle.desk_laws.specs.Stream.{Front, Word, Stop, Whole, Fault, Takes, front}
 use Rattle.desk_laws.specs.Effects.{Verdict, Ends, Greets, Goes, Reads, verdict}
 use Rattle.desk_laws.specs.Scene.{Post}
-use Rattle.in_stream.specs.Received.{Received, StandsFor}
+use Rattle.in_stream.specs.Received.{StandsFor}
 use Rattle.guest_session.specs.declared.turn.Turn.{Turn}
-use Rattle.guest_session.specs.declared.turn.Turn.TheVariants.{Wait, Changed, ClipWhole, ClipOver, Ended}
+use Rattle.guest_session.specs.declared.turn.Turn.TheVariants.{Wait, ClipWhole, ClipOver, Ended}
 use Rattle.guest_session.specs.SessionView.{SessionView}
 use Rattle.guest_session.specs.Clips.{HasKeptClip}
-use Rattle.guest_session.specs.Turns.{Turns, TakesUnit, Decides, clip_turn}
+use Rattle.guest_session.specs.Turns.{Turns, TakesUnit, Decides}
 
 -- clipboard data that is kept stands in front, and the turn changed nothing
 pub record FoundClip (old new : SessionView) (f : Front) : Type 0 where

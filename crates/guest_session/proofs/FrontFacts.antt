@@ -1,7 +1,7 @@
 -- What a session may conclude from what its receive buffer shows.
-use Rattle.std.proofs.Common.{◌≡◌, ℕ, ◌+◌, ◌≤◌, ◌<◌, Bool, true, false, cond, nat_lt, nat_le, List, [], ◌∷◌, length, take, drop, Option, Some, None, refl, sym, ap, ◌∙◌, subst, arith, length-take}
+use Rattle.std.proofs.Common.{◌≡◌, ℕ, ◌≤◌, ◌<◌, Bool, true, false, cond, nat_lt, nat_le, List, length, take, drop, Option, Some, None, refl, sym, ap, ◌∙◌, arith, length-take}
 use Rattle.std.specs.Prelude.{◌&&◌, ◌==◌}
-use Rattle.std.proofs.lemmas.Bool.{eq-eqb, ltb-false}
+use Rattle.std.proofs.lemmas.Bool.{ltb-false}
 use Rattle.std.proofs.lemmas.Bool.Decides.{nat_tests}
 use Rattle.gui_wire.specs.declared.Header.{Header}
 use Rattle.gui_wire.specs.declared.WireFault.{WireFault}
@@ -10,8 +10,7 @@ use Rattle.gui_wire.specs.Headers.{header_at}
 use Rattle.gui_wire.specs.Words.{word_at}
 use Rattle.desk_laws.specs.declared.cause.Cause.{Cause}
 use Rattle.desk_laws.specs.declared.cause.Cause.TheVariants.{ClipTooLong}
-use Rattle.desk_laws.specs.Stream as stream
-use Rattle.desk_laws.specs.Stream.{StreamUnit, Front, Wait, Fault, Takes, Word, Whole, front, front_by, front_of, head_fault}
+use Rattle.desk_laws.specs.Stream.{Wait, Fault, Takes, Word, Whole, front, front_of, head_fault}
 use Rattle.desk_laws.proofs.Cutting.{front_by-whole_header, takes-whole_header}
 use Rattle.in_stream.specs.declared.Front.{Front as Lent}
 use Rattle.in_stream.specs.declared.Front.TheVariants as lent
@@ -26,7 +25,6 @@ use Rattle.guest_session.specs.Clips.{BeginsWithClip, HasClip, HasKeptClip}
 use Rattle.guest_session.specs.Parts.{cause_of}
 use Rattle.guest_session.specs.Turns.{clip_turn}
 use Rattle.guest_session.specs.declared.turn.Turn.TheVariants as turn
-use Rattle.guest_session.proofs.HeadLemmas.{head-taken}
 
 -- ---- a whole message
 

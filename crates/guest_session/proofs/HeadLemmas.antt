@@ -1,5 +1,5 @@
 -- A header without a fault, and the message behind it.
-use Rattle.std.proofs.Common.{◌≡◌, ℕ, Bool, true, false, cond, List, Option, Some, None, refl, sym, ap, ◌∙◌, subst}
+use Rattle.std.proofs.Common.{◌≡◌, ℕ, Bool, true, false, cond, List, Some, None, refl, sym, ap, ◌∙◌, subst}
 use Rattle.std.specs.Prelude.{Result, Ok, Err}
 use Rattle.gui_wire.specs.declared.Header.{Header}
 use Rattle.gui_wire.specs.declared.LengthRule.{LengthRule}
@@ -9,7 +9,6 @@ use Rattle.gui_wire.specs.declared.WireFault.TheVariants.{Length}
 use Rattle.gui_wire.specs.AgentMessages.{AgentMessage, kind_of, reading, rule_of, fits_rule}
 use Rattle.gui_wire.specs.Headers.{head_result, result_by}
 use Rattle.gui_wire.proofs.ReadingLemmas.{kind_cases}
-use Rattle.desk_laws.specs.declared.cause.Cause.{Cause}
 use Rattle.desk_laws.specs.declared.cause.Cause.TheVariants.{BadType, BadLength}
 use Rattle.desk_laws.specs.Stage.{takes_type}
 use Rattle.desk_laws.specs.Stream.{head_fault, fault_by}

@@ -1,13 +1,13 @@
 -- What a change of the entries does to the rows that they are.
-use Rattle.std.proofs.Common.{◌≡◌, ℕ, zero, suc, ◌+◌, ◌*◌, ◌≤◌, Bool, true, false, cond, eqb, ◌&&◌, not, List, [], ◌∷◌, ◌++◌, length, map, replicate, Option, Some, None, is_some, refl, sym, ap, ◌∙◌, subst, arith, length-append}
-use Rattle.std.specs.Prelude.{filter, flat_map, slice_get, nat_lt, option_map, ◌==◌, if◌then◌else◌}
+use Rattle.std.proofs.Common.{◌≡◌, ℕ, zero, suc, ◌+◌, ◌*◌, ◌≤◌, Bool, true, false, cond, ◌&&◌, not, List, [], ◌∷◌, ◌++◌, length, map, replicate, Option, Some, None, refl, sym, ap, ◌∙◌, subst, arith, length-append}
+use Rattle.std.specs.Prelude.{filter, slice_get, nat_lt, option_map, ◌==◌, if◌then◌else◌}
 use Rattle.std.specs.List.{All}
 use Rattle.std.proofs.lemmas.Bool.{eq-eqb}
 use Rattle.std.proofs.lemmas.List.{map-append, length-map}
 use Rattle.std.proofs.lemmas.List.Elements.{All-nil, All-cons, All-head, All-tail, All-map, All-filter}
 use Rattle.std.proofs.Math.Nat.{mul-suc, mul-zero}
 use Rattle.gui_num.specs.declared.Rect.{Rect}
-use Rattle.desk_laws.specs.Rows.{Row, DumpOf, row_with, is_row, span, grid, content_of, content_at, contents_at_size}
+use Rattle.desk_laws.specs.Rows.{Row, row_with, is_row, span, grid, content_of, content_at, contents_at_size}
 use Rattle.desk_laws.specs.Effects.{refs_besides, Added, Replaced, Removed, changed, replaced_in, forgets, created}
 use Rattle.window_table.specs.Entries.{Entry, TableView, AreApart, entry_at, plain_rows, with_pane, entry_with, changed_at, updated, besides_slot, removed, forgets_window, new_entry}
 use Rattle.guest_session.specs.SessionView.{IsPlace}
@@ -18,7 +18,7 @@ use Rattle.guest_session.specs.Panes.{ShowsRow}
 use Rattle.guest_session.specs.Edits.{FitsEdit, pane_edited, row_edited}
 use Rattle.desk_laws.proofs.GridLemmas.{length-span}
 use Rattle.guest_session.specs.RowsView.{RowsView, AreKept, own_row, own_rows, viewed, with_change, with_row}
-use Rattle.guest_session.proofs.TableLemmas.{Names, HasSlot, All-find, names-all, found-window, row-found, no_slot, looks_same}
+use Rattle.guest_session.proofs.TableLemmas.{Names, HasSlot, All-find, names-all, row-found, no_slot, looks_same}
 
 -- ---- one entry changed
 

@@ -1,6 +1,6 @@
 -- What a turn did, by what stood in front.
-use Rattle.std.proofs.Common.{◌≡◌, ℕ, ◌/◌, ◌%◌, Bool, true, false, cond, List, [], Option, Some, None, refl, sym, ap, ◌∙◌, subst}
-use Rattle.std.specs.Prelude.{◌==◌, Result, Ok, Err}
+use Rattle.std.proofs.Common.{◌≡◌, ℕ, ◌/◌, ◌%◌, Bool, true, cond, List, [], Some, None, refl, sym, ap, ◌∙◌, subst}
+use Rattle.std.specs.Prelude.{Result, Ok, Err}
 use Rattle.std.proofs.lemmas.Bool.{eq-eqb, ne_eqb}
 use Rattle.gui_wire.specs.declared.Header.{Header}
 use Rattle.desk_laws.specs.declared.cause.Cause.{Cause}
@@ -8,12 +8,12 @@ use Rattle.desk_laws.specs.declared.cause.Cause.TheVariants.{BadVersion}
 use Rattle.desk_laws.specs.Sizes.{Sizes}
 use Rattle.desk_laws.specs.Stream as cut
 use Rattle.desk_laws.specs.Stream.{StreamUnit, Word, Whole, Front, Fault, Takes, front}
-use Rattle.desk_laws.specs.Effects.{Verdict, Ends, Greets, Goes, Reads, changed, verdict, greeting}
+use Rattle.desk_laws.specs.Effects.{Verdict, Ends, Greets, Goes, Reads, verdict, greeting}
 use Rattle.desk_laws.specs.Scene.{Post, replies}
 use Rattle.io_ports.specs.Posts.{Leads}
 use Rattle.in_stream.specs.Received.{Received, StandsFor}
 use Rattle.guest_session.specs.declared.turn.Turn.{Turn}
-use Rattle.guest_session.specs.declared.turn.Turn.TheVariants.{Wait, Changed, ClipWhole, ClipOver, Ended}
+use Rattle.guest_session.specs.declared.turn.Turn.TheVariants.{Wait, Changed, Ended}
 use Rattle.guest_session.specs.SessionView.{SessionView}
 use Rattle.guest_session.specs.RowsView.{RowsView}
 use Rattle.guest_session.specs.Obeyed.{Carries}

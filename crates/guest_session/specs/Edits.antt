@@ -1,6 +1,5 @@
 -- What a change of one window does to its pane and to its row.
-use Rattle.std.specs.Prelude.{ℕ, ◌≡◌, ◌≤◌, Bool, true, false, List, length, if◌then◌else◌}
-use Rattle.gui_num.specs.declared.Rect.{Rect}
+use Rattle.std.specs.Prelude.{◌≤◌, true, false, length, if◌then◌else◌}
 use Rattle.desk_laws.specs.Rows.{Row, placed_at}
 use Rattle.desk_laws.specs.Effects.{text_of, flags_without, minimize, unmapped_row}
 use Rattle.window_table.specs.declared.pane.Pane.{Pane}

@@ -1,5 +1,4 @@
 -- The numbers of a setup, as a session keeps them.
-use Rattle.std.specs.Prelude.{ℕ, ◌≤◌}
 use Rattle.desk_laws.specs.Sizes.{Sizes}
 use Rattle.guest_session.specs.declared.numbers.Numbers.{Numbers}
 

@@ -1,7 +1,7 @@
 -- The rows of one guest, and the entries of a table that they are.
-use Rattle.std.specs.Prelude.{ℕ, ◌≤◌, ◌*◌, List, map, replicate, Option, Some, None}
+use Rattle.std.specs.Prelude.{ℕ, ◌≤◌, ◌*◌, List, map, replicate, Some, None}
 use Rattle.std.specs.List.{All}
-use Rattle.desk_laws.specs.Rows.{Row, DumpOf}
+use Rattle.desk_laws.specs.Rows.{Row}
 use Rattle.desk_laws.specs.Effects.{Change, Replaced, changed}
 use Rattle.window_table.specs.Entries.{Entry, TableView, row_of}
 use Rattle.guest_session.specs.SessionView.{IsPlace}

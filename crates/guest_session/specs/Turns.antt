@@ -1,5 +1,5 @@
 -- What a turn of a session does.
-use Rattle.std.specs.Prelude.{◌≡◌, ℕ, Bool, true, false, nat_le, List, [], length, Option, Some, None, if◌then◌else◌}
+use Rattle.std.specs.Prelude.{◌≡◌, ℕ, Bool, true, false, nat_le, List, length, None, if◌then◌else◌}
 use Rattle.desk_laws.specs.declared.cause.Cause.{Cause}
 use Rattle.desk_laws.specs.Stream as cut
 use Rattle.desk_laws.specs.Stream.{StreamUnit, Word, Stop, Whole, Front, Fault, Takes}
@@ -7,7 +7,7 @@ use Rattle.desk_laws.specs.Rows.{Row}
 use Rattle.desk_laws.specs.Effects.{Verdict, Ends, Greets, Goes, Reads, changed, verdict}
 use Rattle.desk_laws.specs.Scene.{Post, replies}
 use Rattle.io_ports.specs.Posts.{Leads}
-use Rattle.in_stream.specs.Received.{Received, StandsFor}
+use Rattle.in_stream.specs.Received.{StandsFor}
 use Rattle.guest_session.specs.declared.turn.Turn.{Turn}
 use Rattle.guest_session.specs.declared.turn.Turn.TheVariants.{Wait, Changed, ClipWhole, ClipOver, Ended}
 use Rattle.guest_session.specs.SessionView.{SessionView, IsEnded}

@@ -1,5 +1,5 @@
-use Rattle.std.proofs.Common.{◌≡◌, ◌∙◌, Option, Some, None, Err, Ok, sym, ap, subst}
-use Rattle.gui_wire.specs.AgentMessages.{AgentMessage, reading}
+use Rattle.std.proofs.Common.{Option, Err, Ok, sym, subst}
+use Rattle.gui_wire.specs.AgentMessages.{AgentMessage}
 use Rattle.gui_wire.specs.Seen.{message}
 use Rattle.desk_laws.specs.Effects.{message_verdict}
 use Rattle.guest_session.specs.Obeyed.{Carries}

@@ -1,11 +1,8 @@
-use Rattle.std.proofs.Common.{◌≡◌, ◌∙◌, ℕ, List, Bool, true, Some, None, refl, sym, ap, subst}
-use Rattle.desk_laws.specs.declared.cause.Cause.{Cause}
+use Rattle.std.proofs.Common.{◌∙◌, ℕ, true, None, refl, sym, ap, subst}
 use Rattle.desk_laws.specs.declared.cause.Cause.TheVariants.{ClipTooLong}
 use Rattle.desk_laws.specs.Sizes.{Sizes}
-use Rattle.desk_laws.specs.Stream.{Whole, Front, Fault, front}
+use Rattle.desk_laws.specs.Stream.{Whole, Fault, front}
 use Rattle.desk_laws.specs.Effects.{verdict}
-use Rattle.in_stream.specs.Received.{StandsFor}
-use Rattle.in_stream.specs.Shown as shown
 use Rattle.in_stream.proofs.CallerLemmas.{some_rest, stands-some_rest, has_unit-whole, shown-whole, shown-skipped, shown-need, shown-skipping, shown-clip_fault}
 use Rattle.guest_session.specs.declared.turn.Turn.{Turn}
 use Rattle.guest_session.specs.Parts.{joined, ended_by}

@@ -1,4 +1,4 @@
-use Rattle.std.proofs.Common.{◌≡◌, ◌∙◌, Bool, true, None, sym, ap, subst}
+use Rattle.std.proofs.Common.{◌≡◌, ◌∙◌, Bool, true, None, sym, subst}
 use Rattle.desk_laws.specs.Stream.{front}
 use Rattle.guest_session.specs.Numbers.{sizes_in}
 use Rattle.guest_session.specs.Parts.{joined, ended_by}

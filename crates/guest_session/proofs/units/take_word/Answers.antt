@@ -1,4 +1,4 @@
-use Rattle.std.proofs.Common.{◌≡◌, ◌∙◌, ℕ, ◌%◌, false, sym, ap, subst}
+use Rattle.std.proofs.Common.{◌∙◌, ℕ, ◌%◌, false, sym, ap, subst}
 use Rattle.desk_laws.specs.Stream.{Word, front}
 use Rattle.desk_laws.specs.Effects.{greeting}
 use Rattle.desk_laws.specs.Scene.{replies}

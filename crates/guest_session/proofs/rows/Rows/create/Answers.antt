@@ -1,4 +1,4 @@
-use Rattle.std.proofs.Common.{◌≡◌, ◌∙◌, ℕ, List, Option, None, is_some, sym, ap}
+use Rattle.std.proofs.Common.{◌∙◌, is_some, sym, ap}
 use Rattle.desk_laws.specs.Rows.{row_with}
 use Rattle.window_table.specs.Entries.{entry_with}
 use Rattle.guest_session.specs.RowsView.{RowsView, own_row}

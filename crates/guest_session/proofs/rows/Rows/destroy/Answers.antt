@@ -1,8 +1,7 @@
-use Rattle.std.proofs.Common.{◌≡◌, ◌∙◌, ℕ, Some, None, refl, sym, ap}
-use Rattle.desk_laws.specs.Rows.{Row, row_with}
+use Rattle.std.proofs.Common.{◌≡◌, ◌∙◌, Some, None, refl, sym, ap}
 use Rattle.desk_laws.specs.Effects.{Removed}
 use Rattle.window_table.specs.Entries.{TableView}
-use Rattle.guest_session.specs.RowsView.{RowsView, with_change}
+use Rattle.guest_session.specs.RowsView.{with_change}
 use Rattle.guest_session.proofs.TableLemmas.{has_slot}
 use Rattle.guest_session.proofs.RowChanges.{kept-removed, viewed-removed, row-none}
 use Rattle.guest_session.proofs.rows.Rows.destroy.Goals as goal

@@ -1,4 +1,4 @@
-use Rattle.std.proofs.Common.{◌≡◌, ◌∙◌, ℕ, Bool, is_some, sym, ap}
+use Rattle.std.proofs.Common.{◌∙◌, is_some, sym, ap}
 use Rattle.desk_laws.specs.Rows.{row_with}
 use Rattle.desk_laws.specs.Effects.{id_if}
 use Rattle.guest_session.specs.RowsView.{RowsView}

@@ -1,14 +1,9 @@
-use Rattle.std.proofs.Common.{◌≡◌, ◌∙◌, ℕ, Some, None, refl, sym, ap, subst}
-use Rattle.gui_wire.specs.Seen.{references}
-use Rattle.desk_laws.specs.Rows.{Row, row_with}
+use Rattle.std.proofs.Common.{refl, subst}
 use Rattle.window_table.specs.declared.pane.Pane.{Pane}
-use Rattle.window_table.specs.Entries as entries
-use Rattle.window_table.specs.Entries.{Entry, TableView, with_pane}
 use Rattle.guest_session.specs.SessionView.{IsPlace, AreRows}
-use Rattle.guest_session.specs.RowsView.{RowsView, with_row, with_dump, own_row}
-use Rattle.guest_session.specs.Edits.{row_edited, pane_edited}
-use Rattle.guest_session.proofs.TableLemmas.{has_slot, HasSlot, are_rows}
-use Rattle.guest_session.proofs.RowChanges.{kept-updated, viewed-updated, row-is, row-none, got-is, shows-row, placed-at-slot, dump-fits, edited-row, edited-place}
+use Rattle.guest_session.specs.RowsView.{RowsView}
+use Rattle.guest_session.proofs.TableLemmas.{has_slot, are_rows}
+use Rattle.guest_session.proofs.RowChanges.{row-none, got-is, shows-row, placed-at-slot}
 use Rattle.guest_session.proofs.rows.Rows.pane.Goals as goal
 
 pub get-requires : goal.get-requires

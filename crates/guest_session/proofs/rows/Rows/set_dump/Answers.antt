@@ -1,14 +1,10 @@
-use Rattle.std.proofs.Common.{◌≡◌, ◌∙◌, ℕ, Some, None, refl, sym, ap, subst}
+use Rattle.std.proofs.Common.{◌≡◌, ◌∙◌, Some, None, refl, sym, ap}
 use Rattle.gui_wire.specs.Seen.{references}
-use Rattle.desk_laws.specs.Rows.{Row, row_with}
-use Rattle.window_table.specs.declared.pane.Pane.{Pane}
 use Rattle.window_table.specs.Entries as entries
 use Rattle.window_table.specs.Entries.{Entry, TableView, with_pane}
-use Rattle.guest_session.specs.SessionView.{IsPlace, AreRows}
-use Rattle.guest_session.specs.RowsView.{RowsView, with_row, with_dump, own_row}
-use Rattle.guest_session.specs.Edits.{row_edited, pane_edited}
-use Rattle.guest_session.proofs.TableLemmas.{has_slot, HasSlot, are_rows}
-use Rattle.guest_session.proofs.RowChanges.{kept-updated, viewed-updated, row-is, row-none, got-is, shows-row, placed-at-slot, dump-fits, edited-row, edited-place}
+use Rattle.guest_session.specs.RowsView.{with_row, with_dump}
+use Rattle.guest_session.proofs.TableLemmas.{has_slot}
+use Rattle.guest_session.proofs.RowChanges.{kept-updated, viewed-updated, row-is, row-none, dump-fits}
 use Rattle.guest_session.proofs.rows.Rows.set_dump.Goals as goal
 
 pub set_refs-requires-clause-held : goal.set_refs-requires-clause-held

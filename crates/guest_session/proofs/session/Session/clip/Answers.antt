@@ -1,7 +1,5 @@
-use Rattle.std.proofs.Common.{◌≡◌, ◌∙◌, List, ℕ, sym, ap, subst}
-use Rattle.in_stream.specs.Received.{Received, StandsFor}
-use Rattle.in_stream.specs.Seen.{seen}
-use Rattle.in_stream.specs.Shown as shown
+use Rattle.std.proofs.Common.{◌≡◌, sym, ap, subst}
+use Rattle.in_stream.specs.Received.{Received}
 use Rattle.guest_session.specs.Clips.{BeginsWithClip, HasKeptClip}
 use Rattle.guest_session.specs.SessionView.{SessionView}
 use Rattle.guest_session.proofs.FrontFacts.{clip-body, clip-is_whole}

@@ -3,7 +3,7 @@ use Rattle.in_stream.specs.Received.{Received}
 use Rattle.in_stream.specs.Taking.{DropsUnit}
 use Rattle.guest_session.specs.Clips.{HasClip}
 use Rattle.guest_session.specs.SessionView.{SessionView}
-use Rattle.guest_session.proofs.FrontFacts.{clip-unit, clip-greeted}
+use Rattle.guest_session.proofs.FrontFacts.{clip-unit}
 use Rattle.guest_session.proofs.session.Session.clip_done.Goals as goal
 
 pub drop_front-requires-clause-unit : goal.drop_front-requires-clause-unit
