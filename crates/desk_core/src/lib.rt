@@ -9,6 +9,8 @@ mod desk;
 mod draw;
 mod picture;
 mod stack;
+#[cfg(test)]
+mod tests;
 
 pub use desk::{Desk, Stepped, Summary};
 pub use picture::Picture;
