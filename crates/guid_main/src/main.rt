@@ -63,13 +63,16 @@ fn tell(rt: &HostRuntime, status: &Status) -> io::Result<()> {
     }
 }
 
+// How many bytes the buffer of a standard stream has.
+const STREAM_BUFFER: usize = 65536;
+
 // Runs over the standard streams, both through buffers.
 fn run_streams(rt: &HostRuntime, words: &Vec<String>) -> Status {
     let alloc = rt.alloc();
-    let Ok(reader) = BufReader::new(alloc, rt.reader()) else {
+    let Ok(reader) = BufReader::with_capacity(alloc, STREAM_BUFFER, rt.reader()) else {
         return Status::NoMemory;
     };
-    let Ok(mut writer) = BufWriter::new(alloc, io::writer(rt)) else {
+    let Ok(mut writer) = BufWriter::with_capacity(alloc, STREAM_BUFFER, io::writer(rt)) else {
         return Status::NoMemory;
     };
     let mut input = StdSource::new(reader);
