@@ -186,10 +186,6 @@ pub not-some : (o : Option Cause) → is_some o ≡ false → o ≡ None
 not-some None e = refl
 not-some (Some c) e = cc
 
-pub some-of : (o : Option Cause) → is_some o ≡ true → (c : Cause) × (o ≡ Some c)
-some-of None e = cc
-some-of (Some c) e = (c, refl)
-
 pub nil-of : (xs : List ℕ) → (length xs == 0) ≡ true → xs ≡ []
 nil-of [] e = refl
 nil-of (x ∷ xs) e = absurd (omega (arith, eqb-true (length (x ∷ xs)) 0 e))

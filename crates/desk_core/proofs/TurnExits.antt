@@ -25,12 +25,16 @@ use Rattle.guest_session.specs.Clips.{is_clip, HasClip}
 use Rattle.guest_session.specs.Turns.{Turns, TakesUnit, Decides, window_of}
 use Rattle.desk_core.specs.DeskView.{DeskView}
 use Rattle.desk_core.specs.DeskStands.{StandsWith}
-use Rattle.desk_core.specs.Kept.{IsKept}
 use Rattle.desk_core.specs.PieceSteps.{TookSome, Settled}
 use Rattle.desk_core.specs.Stacked.{id_in, layer_in, after_layer}
 use Rattle.desk_laws.proofs.FollowChanges.{follow-few}
 use Rattle.desk_core.proofs.StandLemmas.{moved}
-use Rattle.desk_core.proofs.TurnLemmas.{IsClipTurn, ShownClip, shown-clip, stays-took, turn-changed, turn-ended, turn-waits, turn-shorter, shorter-behind, clip-took, counted-unit, not-changed-clip, not-ended}
+use Rattle.desk_core.proofs.UnitTurns.{stays-took, counted-unit}
+use Rattle.desk_core.proofs.ChangedTurns.{turn-changed, not-changed-clip}
+use Rattle.desk_core.proofs.ClipTurns.{IsClipTurn, ShownClip, shown-clip, clip-took}
+use Rattle.desk_core.proofs.EndedTurns.{turn-ended, not-ended}
+use Rattle.desk_core.proofs.WaitTurns.{turn-waits}
+use Rattle.desk_core.proofs.ShorterTurns.{turn-shorter, shorter-behind}
 
 -- what `turn` ensures of a session that is open, and of one that has ended
 abbrev pub Turned : {O : Type 0} → (O → Post → O → Type 0) → O → O → SessionView → SessionView → Turn → Type 0
@@ -243,17 +247,3 @@ pub exit-over : {O : Type 0} (takes : O → Post → O → Type 0) (out out' : O
 exit-over takes out out' setup held desk new state cause stands turned over still =
     let going = busy-going out out' desk.session new (turns.Ended cause) tt over in
     ended-now takes out out' desk.session new cause (front desk.session.stream.greeted held) (turned going held (stands.opened going).stream) still
-
--- ---- the desk stays kept
-
-pub took-kept : {O : Type 0} (takes : O → Post → O → Type 0) (out out' : O) (greeted greeted' : Bool) (room room' : ℕ) (old new : DeskView)
-    → (kept : IsKept greeted room old) → TookSome takes out out' kept.setup kept.held old new kept.state
-    → (new.session.ended ≡ None → greeted' ≡ new.session.stream.greeted) → room' ≡ room → IsKept greeted' room' new
-took-kept takes out out' greeted greeted' room room' old new kept took same roomy = record {
-  setup = kept.setup;
-  held = took.behind;
-  state = took.outcome.desk;
-  stands = took.leads.0;
-  greeted_is = same;
-  roomy = omega (arith, kept.roomy, roomy);
-}

@@ -1,7 +1,8 @@
 use Rattle.std.proofs.Common.{◌∙◌, ℕ, subst}
 use Rattle.desk_laws.specs.Picture.{pixels}
 use Rattle.guest_session.specs.SessionView.{AreRows}
-use Rattle.desk_core.proofs.DrawLemmas.{map-agree, window-over, none-over, at-window}
+use Rattle.desk_core.proofs.DrawLemmas.{map-agree, window-over, none-over}
+use Rattle.desk_core.proofs.RowLemmas.{at-window}
 use Rattle.desk_core.proofs.draw.draw_one.Goals as goal
 
 pub returns-in-Some-clause-pixels : goal.returns-in-Some-clause-pixels

@@ -3,7 +3,8 @@ use Rattle.desk_laws.specs.declared.row_id.RowId.{RowId}
 use Rattle.desk_laws.specs.Picture.{pixels}
 use Rattle.desk_core.specs.Drawing.{colour_under}
 use Rattle.desk_core.specs.PictureView.{PictureView}
-use Rattle.desk_core.proofs.DrawLemmas.{next-is, same-sides}
+use Rattle.desk_core.proofs.DrawLemmas.{same-sides}
+use Rattle.desk_core.proofs.RowLemmas.{next-is}
 use Rattle.desk_core.proofs.draw.draw_stack.Goals as goal
 use Rattle.desk_core.proofs.draw.draw_stack.Goals.{in-Some, in_default}
 

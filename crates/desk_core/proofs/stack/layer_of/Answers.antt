@@ -2,7 +2,7 @@ use Rattle.std.proofs.Common.{◌∙◌, ℕ, Some, None, ap, refl, sym, subst}
 use Rattle.std.specs.Prelude.{if◌then◌else◌}
 use Rattle.guest_session.specs.SessionView.{AreRows}
 use Rattle.desk_core.specs.Stacked.{id_in, layer_in}
-use Rattle.desk_core.proofs.DrawLemmas.{at-window, pane-layer}
+use Rattle.desk_core.proofs.RowLemmas.{at-window, pane-layer}
 use Rattle.desk_core.proofs.stack.layer_of.Goals as goal
 
 pub returns-then-pane-clause-is : goal.returns-then-pane-clause-is

@@ -1,6 +1,6 @@
 use Rattle.std.proofs.Common.{sym, subst, ℕ}
 use Rattle.desk_core.specs.Kept.{IsKept}
-use Rattle.desk_core.proofs.StandLemmas.{counts-kept}
+use Rattle.desk_core.proofs.KeptLemmas.{counts-kept}
 use Rattle.desk_core.proofs.desk.Desk.count_item.Goals as goal
 
 pub invariant_of-self : goal.invariant_of-self

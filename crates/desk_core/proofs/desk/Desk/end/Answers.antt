@@ -7,7 +7,8 @@ use Rattle.stacking.specs.Stacked.{Stacked}
 use Rattle.desk_core.specs.DeskView.{DeskView}
 use Rattle.desk_core.specs.DeskStands.{Stands, StepsTo}
 use Rattle.desk_core.specs.Kept.{IsKept}
-use Rattle.desk_core.proofs.StandLemmas.{ends-kept, ends-stands}
+use Rattle.desk_core.proofs.KeptLemmas.{ends-kept}
+use Rattle.desk_core.proofs.EndStands.{ends-stands}
 use Rattle.desk_core.proofs.PieceLemmas.{ended-now, not-some}
 use Rattle.desk_core.proofs.desk.Desk.end.Goals as goal
 

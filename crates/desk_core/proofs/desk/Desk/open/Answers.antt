@@ -10,7 +10,7 @@ use Rattle.guest_session.specs.SessionView.{SessionView}
 use Rattle.desk_core.specs.DeskView.{DeskView}
 use Rattle.desk_core.specs.DeskStands.{StandsWith}
 use Rattle.desk_core.specs.PictureView.{PictureView}
-use Rattle.desk_core.proofs.StandLemmas.{opening-with, opening-stands}
+use Rattle.desk_core.proofs.OpeningStands.{opening-with, opening-stands}
 use Rattle.desk_core.proofs.desk.Desk.open.Goals as goal
 
 -- the desk that was made

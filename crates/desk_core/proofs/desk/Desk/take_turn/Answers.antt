@@ -7,7 +7,8 @@ use Rattle.desk_core.specs.DeskView.{DeskView}
 use Rattle.desk_core.specs.DeskStands.{StandsWith}
 use Rattle.desk_core.specs.Kept.{IsKept}
 use Rattle.desk_core.specs.PieceSteps.{TookSome, Settled, held_by}
-use Rattle.desk_core.proofs.TurnExits.{exit-guest, exit-changed, exit-room, exit-fewer, exit-has_clip, exit-clip, exit-clip_fewer, exit-greeted, exit-ended, exit-stays, exit-settled, exit-waits, exit-over, clip-busy, took-kept}
+use Rattle.desk_core.proofs.TurnExits.{exit-guest, exit-changed, exit-room, exit-fewer, exit-has_clip, exit-clip, exit-clip_fewer, exit-greeted, exit-ended, exit-stays, exit-settled, exit-waits, exit-over, clip-busy}
+use Rattle.desk_core.proofs.KeptLemmas.{took-kept}
 use Rattle.desk_core.proofs.desk.Desk.take_turn.Goals as goal
 
 -- ---- a message or the version word

@@ -1,5 +1,5 @@
 use Rattle.std.proofs.Common.{◌∙◌, refl}
-use Rattle.desk_core.proofs.TurnLemmas.{stays-took}
+use Rattle.desk_core.proofs.UnitTurns.{stays-took}
 use Rattle.desk_core.proofs.PieceLemmas.{took-more}
 use Rattle.desk_core.proofs.desk.Desk.take_units.Goals as goal
 

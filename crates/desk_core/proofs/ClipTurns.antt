@@ -1,0 +1,97 @@
+-- A turn that shows clipboard data.
+use Rattle.std.proofs.Common.{◌≡◌, ℕ, ◌+◌, Bool, true, false, List, [], None, refl, sym, ◌∙◌, ap, subst}
+use Rattle.std.proofs.lemmas.Bool.{eqb-true}
+use Rattle.gui_wire.specs.AgentMessages.{reading}
+use Rattle.desk_laws.specs.declared.setup.Setup.{Setup}
+use Rattle.desk_laws.specs.Sizes.{Sizes}
+use Rattle.desk_laws.specs.Stream as stream
+use Rattle.desk_laws.specs.Stream.{StreamUnit, Word, Stop, Whole, Front, Fault, Takes, front, front_of, head_fault, front_by, Cut, cut, is_greeting}
+use Rattle.desk_laws.specs.Rows.{Row}
+use Rattle.desk_laws.specs.Frames.{counted}
+use Rattle.desk_laws.specs.Effects.{Same, Goes, Greets, Ends, Reads, Verdict, verdict, message_verdict}
+use Rattle.desk_laws.specs.Scene.{Post}
+use Rattle.desk_laws.specs.State.{DeskState}
+use Rattle.desk_laws.specs.Steps.{messages_of}
+use Rattle.desk_laws.proofs.CuttingLemmas.{front-greets}
+use Rattle.in_stream.specs.Received.{StandsFor}
+use Rattle.guest_session.specs.declared.turn.Turn.{Turn}
+use Rattle.guest_session.specs.declared.turn.Turn.TheVariants as turns
+use Rattle.guest_session.specs.SessionView.{SessionView, with_stream}
+use Rattle.guest_session.specs.Clips.{is_clip}
+use Rattle.guest_session.specs.Turns.{Turns, TakesUnit, Decides, window_of}
+use Rattle.desk_core.specs.DeskView.{DeskView}
+use Rattle.desk_core.specs.DeskStands.{StandsWith}
+use Rattle.desk_core.specs.PieceSteps.{TookSome}
+use Rattle.desk_laws.proofs.FollowChanges.{followed-same}
+use Rattle.desk_core.proofs.StandLemmas.{moved, HadLists}
+use Rattle.desk_core.proofs.UnitTurns.{went-took}
+
+clip-verdict : (sizes : Sizes) (guest minor : ℕ) (own : List Row) (unit : StreamUnit) → is_clip unit ≡ true → verdict sizes guest minor own unit ≡ Goes Same []
+clip-verdict sizes guest minor own (Word word) e = cc
+clip-verdict sizes guest minor own (Stop cause) e = cc
+clip-verdict sizes guest minor own (Whole header body) e =
+    ap (λ kind. message_verdict sizes guest minor own header (reading kind body)) (eqb-true header.kind 140 e)
+
+clip-message : (unit : StreamUnit) → is_clip unit ≡ true → messages_of unit ≡ 1
+clip-message (Word word) e = cc
+clip-message (Stop cause) e = cc
+clip-message (Whole header body) e = refl
+
+-- whether a turn shows clipboard data
+abbrev pub IsClipTurn : Turn → Type 0
+IsClipTurn turns.Wait = ⊥
+IsClipTurn (turns.Changed window drawn) = ⊥
+IsClipTurn turns.ClipWhole = Unit {0}
+IsClipTurn turns.ClipOver = Unit {0}
+IsClipTurn (turns.Ended cause) = ⊥
+
+-- what a clipboard turn tells
+pub record ShownClip {O : Type 0} (out out' : O) (old new : SessionView) (f : Front) : Type 0 where
+  pub unit : StreamUnit
+  pub behind : List ℕ
+  pub is : f ≡ Takes unit behind
+  pub clip : is_clip unit ≡ true
+  pub same : new ≡ old
+  pub silent : out' ≡ out
+
+not-decided : {O : Type 0} (takes : O → Post → O → Type 0) (out out' : O) (old new : SessionView) (turn : Turn) (window : ℕ) (behind : List ℕ) (v : Verdict)
+    → IsClipTurn turn → Decides takes out out' old new turn window behind v → ⊥
+not-decided takes out out' old new turn window behind (Ends cause) c d = let P : Turn → Type 0 = λ t. IsClipTurn t in subst P d.answer c
+not-decided takes out out' old new turn window behind (Greets minor answers) c d = let P : Turn → Type 0 = λ t. IsClipTurn t in subst P d.answer c
+not-decided takes out out' old new turn window behind (Goes change answers) c d = let P : Turn → Type 0 = λ t. IsClipTurn t in subst P d.answer c
+not-decided takes out out' old new turn window behind (Reads row area) c d = d
+
+pub shown-clip : {O : Type 0} (takes : O → Post → O → Type 0) (out out' : O) (old new : SessionView) (turn : Turn) (f : Front)
+    → IsClipTurn turn → Turns takes out out' old new turn f → ShownClip out out' old new f
+shown-clip takes out out' old new turn stream.Wait c t = let P : Turn → Type 0 = λ t. IsClipTurn t in absurd (subst P t.answer c)
+shown-clip takes out out' old new turn (Fault cause) c t = let P : Turn → Type 0 = λ t. IsClipTurn t in absurd (subst P t.answer c)
+shown-clip takes out out' old new turn (Takes unit behind) c t = by_clip (is_clip unit) refl t
+  where
+    by_clip : (b : Bool) → is_clip unit ≡ b → TakesUnit takes out out' old new turn unit behind b → ShownClip out out' old new (Takes unit behind)
+    by_clip true e t = record { unit = unit; behind = behind; is = refl; clip = e; same = t.stays.session; silent = t.stays.silent }
+    by_clip false e t = absurd (not-decided takes out out' old new turn (window_of unit) behind (verdict old.sizes old.guest old.minor old.rows unit) c t)
+
+pub clip-took : {O : Type 0} (takes : O → Post → O → Type 0) (out : O) (setup : Setup) (held behind : List ℕ) (desk : DeskView) (new : SessionView) (messages : ℕ) (state : DeskState) (unit : StreamUnit)
+    → StandsWith setup held desk state → desk.session.ended ≡ None → front desk.session.stream.greeted held ≡ Takes unit behind → is_clip unit ≡ true
+    → new ≡ with_stream new.stream desk.session → new.stream.greeted ≡ true → StandsFor new.stream behind
+    → messages ≡ counted (desk.messages + 1)
+    → TookSome takes out out setup held desk (moved new desk.layers messages desk) state
+clip-took takes out setup held behind desk new messages state unit stands going is clip same greeted holds count =
+    let s = desk.session in
+    let rows : s.rows ≡ new.rows = sym (ap (λ (x : SessionView). x.rows) same) in
+    let L : List Row → Type 0 = λ rs. HadLists rs desk.layers desk.layers in
+    let lists : HadLists s.rows desk.layers desk.layers =
+    record { lists = followed-same s.rows desk.layers stands.followed; follow = stands.followed; own = stands.own } in
+    went-took takes out out setup held behind desk new desk.layers messages state unit (Goes Same []) [] stands going is
+    (clip-verdict s.sizes s.guest s.minor s.rows unit clip) refl refl
+    (record {
+      rows = stands.rows ∙ rows;
+      minor = (stands.opened going).minor ∙ sym (ap (λ (x : SessionView). x.minor) same);
+      readings = refl;
+      greeted = front-greets s.stream.greeted held unit behind is ∙ sym greeted;
+      stands = holds;
+      guest = ap (λ (x : SessionView). x.guest) same;
+      sizes = ap (λ (x : SessionView). x.sizes) same;
+      ended = ap (λ (x : SessionView). x.ended) same ∙ going;
+    })
+    (subst L rows lists) (count ∙ ap (λ n. counted (desk.messages + n)) (sym (clip-message unit clip))) greeted refl
