@@ -14,11 +14,11 @@ use Rattle.desk_laws.specs.Stream.{StreamUnit, cut}
 use Rattle.desk_laws.specs.Effects.{Effect}
 use Rattle.desk_laws.specs.Grants.{granted}
 use Rattle.desk_laws.specs.Scene.{Scene, Post, Reply, Ended, Picture, Summary, Input, Delivery, Grants, Asks, Pastes, replies, grant_where, grant, pastes, deliver, deliver_all, perform, scene_of_input, Took, Closing, Losing}
-use Rattle.desk_laws.specs.State.{DeskState, session_of, stays, count_item}
+use Rattle.desk_laws.specs.State.{DeskState, session_of, count_item}
 use Rattle.desk_laws.specs.Settle.{settle}
 use Rattle.desk_laws.specs.Events.{route}
-use Rattle.desk_laws.specs.Steps.{ends, end_told, unit_told, unit_done, unit_effect, unit_of_open, take_unit, take_units, with_rest, bytes_of_open, cut_short, take_bytes, end_of_open, end_session, store_of_open, event, step, is_nil}
-use Rattle.guid_main.specs.DeskPosts.{is_for_guest, guest_posts}
+use Rattle.desk_laws.specs.Steps.{ends, end_told, unit_told, unit_done, unit_effect, unit_of_open, take_unit, take_units, with_rest, bytes_of_open, take_bytes, end_of_open, end_session, store_of_open, event, step}
+use Rattle.desk_core.specs.DeskPosts.{is_for_guest, guest_posts}
 use Rattle.guid_main.specs.OutputGrammar.{post_bytes, posts_bytes}
 use Rattle.guid_main.specs.RecordGrammar.{is_end}
 
@@ -95,18 +95,8 @@ for_guests-bytes_of_open setup guest piece None desk =
     let c = cut (session_of guest desk).greeted ((session_of guest desk).rest ++ piece) in
     for_guests-take_units setup guest c.units (with_rest guest c.rest desk)
 
-for_guests-cut_short : (setup : Setup) (guest : ℕ) (desk : DeskState) → AreForGuests (cut_short setup guest desk).posts
-for_guests-cut_short setup guest desk = by_rest (session_of guest desk).rest
-  where
-    by_rest : (rest : List ℕ) → AreForGuests (if is_nil rest then stays desk else end_session setup guest Closing (StreamEnded 0 0) desk).posts
-    by_rest [] = refl
-    by_rest (b ∷ rest) = for_guests-end_of_open setup guest Closing (StreamEnded 0 0) (session_of guest desk).ended desk
-
 for_guests-take_bytes : (setup : Setup) (guest : ℕ) (piece : List ℕ) (desk : DeskState) → AreForGuests (take_bytes setup guest piece desk).posts
-for_guests-take_bytes setup guest piece desk =
-    let before = bytes_of_open setup guest piece (session_of guest desk).ended desk in
-    for_guests-append before.posts (cut_short setup guest before.desk).posts
-    (for_guests-bytes_of_open setup guest piece (session_of guest desk).ended desk) (for_guests-cut_short setup guest before.desk)
+for_guests-take_bytes setup guest piece desk = for_guests-bytes_of_open setup guest piece (session_of guest desk).ended desk
 
 for_guests-store_of_open : (guest delay page offset : ℕ) (bytes : List ℕ) (ended : Option Cause) (desk : DeskState) → AreForGuests (store_of_open guest delay page offset bytes ended desk).posts
 for_guests-store_of_open guest delay page offset bytes (Some cause) desk = refl

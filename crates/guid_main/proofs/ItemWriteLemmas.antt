@@ -13,14 +13,15 @@ use Rattle.io_ports.specs.declared.source.Failed.{Failed}
 use Rattle.io_ports.specs.Content.{Grows, GrowsPart, IsPrefix}
 use Rattle.io_ports.specs.Counts.{HasCause}
 use Rattle.io_ports.proofs.GrowLemmas.{grows_on, part_behind, part_front, prefix_self, prefix_nil}
-use Rattle.guid_main.specs.declared.desk.Desk.{Desk}
-use Rattle.guid_main.specs.declared.desk.Summary.{Summary}
-use Rattle.guid_main.specs.declared.desk.Stepped.{Stepped}
-use Rattle.guid_main.specs.declared.desk.Stepped.TheVariants as stepped
-use Rattle.guid_main.specs.DeskStands.{Stands, picture_of, stepped_of}
+use Rattle.desk_core.specs.DeskView.{DeskView}
+use Rattle.desk_core.specs.declared.desk.Summary.{Summary}
+use Rattle.desk_core.specs.declared.desk.Stepped.{Stepped}
+use Rattle.desk_core.specs.declared.desk.Stepped.TheVariants as stepped
+use Rattle.desk_core.specs.DeskStands.{Stands, picture_of, stepped_of}
 use Rattle.guid_main.specs.ItemWrites.{Wrote, StepWrites, guest_bytes_of, step_bytes}
-use Rattle.guid_main.specs.OutputGrammar.{picture_record, summary_record, painted_after}
-use Rattle.guid_main.specs.PictureView.{PictureView}
+use Rattle.guid_main.specs.OutputGrammar.{picture_record, summary_record}
+use Rattle.desk_core.specs.Painting.{painted_after}
+use Rattle.desk_core.specs.PictureView.{PictureView}
 use Rattle.guid_main.proofs.DeskFacts.{width_is, height_is}
 use Rattle.guid_main.proofs.GuestPosts.{is_quiet, quiet_bytes}
 use Rattle.guid_main.proofs.WriterLemmas.{rose_before}
@@ -114,7 +115,7 @@ cause_behind (Err e) f g h le cause = record { later = omega (arith, cause.later
 
 -- ---- the four ways
 
-pub item_failed : {T : Type 0} (setup : Setup) (p : ℕ) (item : Item) (piece : List ℕ) (state : DeskState) (old new : Desk) (e : Failed) (a b : Option (List ℕ)) (f g : ℕ) (keeps : Type 0)
+pub item_failed : {T : Type 0} (setup : Setup) (p : ℕ) (item : Item) (piece : List ℕ) (state : DeskState) (old new : DeskView) (e : Failed) (a b : Option (List ℕ)) (f g : ℕ) (keeps : Type 0)
     → StepWrites {T = Stepped} setup item piece state old new (Err e) (guest_bytes_of setup item piece state) a b f g keeps
     → StepWrites {T = T} setup item piece state old new (Err e) (step_bytes p setup item piece state) a b f g keeps
 item_failed setup p item piece state old new e a b f g keeps told = record {
@@ -125,7 +126,7 @@ item_failed setup p item piece state old new e a b f g keeps told = record {
   keeps_sink = told.keeps_sink;
 }
 
-pub item_going : (setup : Setup) (p : ℕ) (item : Item) (piece : List ℕ) (state : DeskState) (old new : Desk) (answer : Stepped) (a b : Option (List ℕ)) (f g : ℕ) (keeps : Type 0)
+pub item_going : (setup : Setup) (p : ℕ) (item : Item) (piece : List ℕ) (state : DeskState) (old new : DeskView) (answer : Stepped) (a b : Option (List ℕ)) (f g : ℕ) (keeps : Type 0)
     → StepWrites {T = Stepped} setup item piece state old new (Ok answer) (guest_bytes_of setup item piece state) a b f g keeps → stepped.Going ≡ stepped_of item
     → StepWrites {T = Unit {0}} setup item piece state old new (Ok tt) (step_bytes p setup item piece state) a b f g keeps
 item_going setup p item piece state old new answer a b f g keeps told is = record {
@@ -136,7 +137,7 @@ item_going setup p item piece state old new answer a b f g keeps told is = recor
   keeps_sink = told.keeps_sink;
 }
 
-pub item_snap : (setup : Setup) (p : ℕ) (item : Item) (piece : List ℕ) (state : DeskState) (old new : Desk) (answer : Stepped) (view : PictureView) (r : Result (Unit {0}) Failed) (a b c : Option (List ℕ)) (f g h : ℕ) (keeps keeps' : Type 0)
+pub item_snap : (setup : Setup) (p : ℕ) (item : Item) (piece : List ℕ) (state : DeskState) (old new : DeskView) (answer : Stepped) (view : PictureView) (r : Result (Unit {0}) Failed) (a b c : Option (List ℕ)) (f g h : ℕ) (keeps keeps' : Type 0)
     → StepWrites {T = Stepped} setup item piece state old new (Ok answer) (guest_bytes_of setup item piece state) a b f g keeps → item ≡ items.Snap
     → view ≡ picture_of new → (picture_of new).pixels ≡ picture setup state.scene.rows state.scene.layers
     → Wrote r (picture_record view.width view.height view.pixels) b c → HasCause g h r → (keeps → keeps')
@@ -164,7 +165,7 @@ item_snap setup p item piece state old new answer view r a b c f g h keeps keeps
 abbrev pub summary_with : Counts → ℕ → Summary
 summary_with counts painted = record { items = counts.items; messages = counts.messages; glances = counts.glances; painted = painted }
 
-pub item_ended : (setup : Setup) (item : Item) (piece : List ℕ) (state : DeskState) (old new : Desk) (answer : Stepped) (summary : Summary) (r : Result (Unit {0}) Failed) (a b c : Option (List ℕ)) (f g h : ℕ) (keeps keeps' : Type 0)
+pub item_ended : (setup : Setup) (item : Item) (piece : List ℕ) (state : DeskState) (old new : DeskView) (answer : Stepped) (summary : Summary) (r : Result (Unit {0}) Failed) (a b c : Option (List ℕ)) (f g h : ℕ) (keeps keeps' : Type 0)
     → StepWrites {T = Stepped} setup item piece state old new (Ok answer) (guest_bytes_of setup item piece state) a b f g keeps → item ≡ items.End
     → ((setup : Setup) (state : DeskState) → Stands setup new state → summary ≡ summary_with state.counts (picture_of new).painted)
     → Wrote r (summary_record (record { items = summary.items; messages = summary.messages; glances = summary.glances }) summary.painted) b c → HasCause g h r → (keeps → keeps')
@@ -188,7 +189,7 @@ item_ended setup item piece state old new answer summary r a b c f g h keeps kee
     }
 
 -- what a writer wrote to the sink that it lends, as the sink's
-pub told_to : {O T : Type 0} (written : O → Option (List ℕ)) (faults : O → ℕ) (keeps : O → O → Type 0) (setup : Setup) (item : Item) (piece : List ℕ) (state : DeskState) (old new : Desk)
+pub told_to : {O T : Type 0} (written : O → Option (List ℕ)) (faults : O → ℕ) (keeps : O → O → Type 0) (setup : Setup) (item : Item) (piece : List ℕ) (state : DeskState) (old new : DeskView)
     (r : Result T Failed) (bytes : List ℕ) (a m b : O) → b ≡ m → Wrote r bytes (written a) (written m) × HasCause (faults a) (faults m) r → keeps a m
     → Stands setup new (step setup item piece state).desk → (picture_of new).painted ≡ painted_after setup item (picture_of old).painted
     → StepWrites setup item piece state old new r bytes (written a) (written b) (faults a) (faults b) (keeps a b)

@@ -1,4 +1,3 @@
-pub mod PictureLemmas
 pub mod PictureBytes
 pub mod GuestPosts
 pub mod WriterLemmas
@@ -10,12 +9,3 @@ pub mod ItemLemmas
 pub mod FeedLemmas
 pub mod FeedRuns
 pub mod AnswerLemmas
-pub mod WindowLemmas
-pub mod DrawLemmas
-pub mod ChangeLemmas
-pub mod StandLemmas
-pub mod ApplyLemmas
-pub mod PostLemmas
-pub mod UnitStands
-pub mod PieceLemmas
-pub mod PieceStands

@@ -18,13 +18,14 @@ use Rattle.io_ports.specs.Feeds.{Answer}
 use Rattle.io_ports.specs.declared.feed.FeedFault.{FeedFault}
 use Rattle.io_ports.specs.declared.feed.FeedFault.TheVariants as feeds
 use Rattle.io_ports.proofs.GrowLemmas.{grows_none, grows_on, part_behind}
-use Rattle.guid_main.specs.declared.desk.Desk.{Desk}
+use Rattle.desk_core.specs.DeskView.{DeskView}
 use Rattle.guid_main.specs.declared.outcome.Outcome.TheVariants as outcomes
 use Rattle.guid_main.specs.Answers.{RanOver, EndsNowhereElse, after_feed}
-use Rattle.guid_main.specs.DeskStands.{Stands, picture_of}
+use Rattle.desk_core.specs.DeskStands.{Stands, picture_of}
 use Rattle.guid_main.specs.FeedRuns.{Fed, NoEnd}
 use Rattle.guid_main.specs.ItemWrites.{step_bytes}
-use Rattle.guid_main.specs.OutputGrammar.{post_bytes, posts_bytes, painted_after, painted_from, output}
+use Rattle.guid_main.specs.OutputGrammar.{post_bytes, posts_bytes, painted_from, output}
+use Rattle.desk_core.specs.Painting.{painted_after}
 use Rattle.guid_main.specs.RecordGrammar.{alone, is_end}
 use Rattle.guid_main.proofs.GuestPosts.{any_count}
 
@@ -101,7 +102,7 @@ so_far_more setup given g p more =
 -- ---- what stands after some items
 
 -- n items were given and stepped, none of them End, and this is what they wrote
-pub record SoFar {F : Type 0} (gives : F → Answer → F → Type 0) (setup : Setup) (n : ℕ) (first feed : F) (desk : Desk) (before after : Option (List ℕ)) : Type 0 where
+pub record SoFar {F : Type 0} (gives : F → Answer → F → Type 0) (setup : Setup) (n : ℕ) (first feed : F) (desk : DeskView) (before after : Option (List ℕ)) : Type 0 where
   pub given : List FedItem
   pub fed : Fed gives first given None feed
   pub no_end : NoEnd given
@@ -110,7 +111,7 @@ pub record SoFar {F : Type 0} (gives : F → Answer → F → Type 0) (setup : S
   pub painted : (picture_of desk).painted ≡ painted_from setup 0 given
   pub grown : Grows before (so_far_bytes setup given) after
 
-pub started : {F : Type 0} (gives : F → Answer → F → Type 0) (setup : Setup) (feed : F) (desk : Desk) (before : Option (List ℕ))
+pub started : {F : Type 0} (gives : F → Answer → F → Type 0) (setup : Setup) (feed : F) (desk : DeskView) (before : Option (List ℕ))
     → Stands setup desk (opening setup) → (picture_of desk).painted ≡ 0 → SoFar gives setup 0 feed feed desk before before
 started gives setup feed desk before stands painted = record {
   given = [];
@@ -122,7 +123,7 @@ started gives setup feed desk before stands painted = record {
   grown = grows_none before before refl;
 }
 
-pub stepped : {F : Type 0} (gives : F → Answer → F → Type 0) (setup : Setup) (n p : ℕ) (first feed after_feed : F) (desk new : Desk) (g : FedItem) (before mid after : Option (List ℕ))
+pub stepped : {F : Type 0} (gives : F → Answer → F → Type 0) (setup : Setup) (n p : ℕ) (first feed after_feed : F) (desk new : DeskView) (g : FedItem) (before mid after : Option (List ℕ))
     → (so_far : SoFar gives setup n first feed desk before mid) → gives feed (Ok g) after_feed → is_end g.item ≡ false
     → Stands setup new (step setup g.item g.piece (run setup so_far.given (opening setup)).desk).desk
     → (picture_of new).painted ≡ painted_after setup g.item (picture_of desk).painted
@@ -140,7 +141,7 @@ stepped gives setup n p first feed after_feed desk new g before mid after so_far
 
 -- ---- the outcomes
 
-pub ended : {F : Type 0} (gives : F → Answer → F → Type 0) (setup : Setup) (n bound : ℕ) (first feed after_feed : F) (desk new : Desk) (g : FedItem) (before mid after : Option (List ℕ))
+pub ended : {F : Type 0} (gives : F → Answer → F → Type 0) (setup : Setup) (n bound : ℕ) (first feed after_feed : F) (desk new : DeskView) (g : FedItem) (before mid after : Option (List ℕ))
     → (so_far : SoFar gives setup n first feed desk before mid) → gives feed (Ok g) after_feed → g ≡ alone items.End → n < bound
     → (picture_of new).painted ≡ painted_after setup g.item (picture_of desk).painted
     → Grows mid (step_bytes (picture_of new).painted setup g.item g.piece (run setup so_far.given (opening setup)).desk) after
@@ -164,7 +165,7 @@ ends_behind : (given : List FedItem) (g : FedItem) → NoEnd given → (is_end g
 ends_behind given g none (inl more) = inl (no_end_more given g none more)
 ends_behind given g none (inr end) = inr (record { front = given; is = ap (λ (x : FedItem). given ++ x ∷ []) end; no_end = none })
 
-pub cut_short : {F : Type 0} (gives : F → Answer → F → Type 0) (setup : Setup) (n bound : ℕ) (first feed after_feed : F) (desk new : Desk) (g : FedItem) (before mid after : Option (List ℕ))
+pub cut_short : {F : Type 0} (gives : F → Answer → F → Type 0) (setup : Setup) (n bound : ℕ) (first feed after_feed : F) (desk new : DeskView) (g : FedItem) (before mid after : Option (List ℕ))
     → (so_far : SoFar gives setup n first feed desk before mid) → gives feed (Ok g) after_feed → (is_end g.item ≡ false) ⊎ (g ≡ alone items.End) → n < bound
     → (picture_of new).painted ≡ painted_after setup g.item (picture_of desk).painted
     → GrowsPart mid (step_bytes (picture_of new).painted setup g.item g.piece (run setup so_far.given (opening setup)).desk) after
@@ -187,7 +188,7 @@ cut_short gives setup n bound first feed after_feed desk new g before mid after 
 same_bytes : (before after : Option (List ℕ)) (xs ys : List ℕ) → xs ≡ ys → Grows before xs after → Grows before ys after
 same_bytes before after xs ys same grown = subst (λ (l : List ℕ). Grows before l after) same grown
 
-pub no_item : {F : Type 0} (gives : F → Answer → F → Type 0) (setup : Setup) (n bound : ℕ) (first feed after : F) (desk : Desk) (fault : FeedFault) (before mid : Option (List ℕ))
+pub no_item : {F : Type 0} (gives : F → Answer → F → Type 0) (setup : Setup) (n bound : ℕ) (first feed after : F) (desk : DeskView) (fault : FeedFault) (before mid : Option (List ℕ))
     → SoFar gives setup n first feed desk before mid → gives feed (Err fault) after → n < bound → RanOver gives setup bound first after (after_feed fault) before mid
 no_item gives setup n bound first feed after desk feeds.Failed before mid so_far one below = record {
   given = so_far.given;
@@ -202,7 +203,7 @@ no_item gives setup n bound first feed after desk (feeds.Bad f) before mid so_fa
   ran = (refl, so_far.no_end, omega (arith, so_far.count), same_bytes before mid _ _ (output_so_far setup so_far.given so_far.no_end) so_far.grown);
 }
 
-pub too_long : {F : Type 0} (gives : F → Answer → F → Type 0) (setup : Setup) (n bound : ℕ) (first feed : F) (desk : Desk) (before mid : Option (List ℕ))
+pub too_long : {F : Type 0} (gives : F → Answer → F → Type 0) (setup : Setup) (n bound : ℕ) (first feed : F) (desk : DeskView) (before mid : Option (List ℕ))
     → SoFar gives setup n first feed desk before mid → n ≡ bound → RanOver gives setup bound first feed outcomes.TooLong before mid
 too_long gives setup n bound first feed desk before mid so_far is = record {
   given = so_far.given;

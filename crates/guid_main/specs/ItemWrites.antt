@@ -7,10 +7,11 @@ use Rattle.desk_laws.specs.declared.setup.Setup.{Setup}
 use Rattle.desk_laws.specs.declared.item.Item.{Item}
 use Rattle.desk_laws.specs.State.{DeskState}
 use Rattle.desk_laws.specs.Steps.{step}
-use Rattle.guid_main.specs.declared.desk.Desk.{Desk}
-use Rattle.guid_main.specs.DeskPosts.{guest_posts}
-use Rattle.guid_main.specs.DeskStands.{Stands, picture_of}
-use Rattle.guid_main.specs.OutputGrammar.{posts_bytes, painted_after, picture_head}
+use Rattle.desk_core.specs.DeskView.{DeskView}
+use Rattle.desk_core.specs.DeskPosts.{guest_posts}
+use Rattle.desk_core.specs.DeskStands.{Stands, picture_of}
+use Rattle.guid_main.specs.OutputGrammar.{posts_bytes, picture_head}
+use Rattle.desk_core.specs.Painting.{painted_after}
 
 -- all the bytes were written, or a part of them where a write failed
 abbrev pub Wrote : {T : Type 0} → Result T Failed → List ℕ → Option (List ℕ) → Option (List ℕ) → Type 0
@@ -18,7 +19,7 @@ Wrote (Ok x) bytes before after = Grows before bytes after
 Wrote (Err e) bytes before after = GrowsPart before bytes after
 
 -- The desk stands for the state after the step, and these bytes were written to one and the same sink.
-pub record StepWrites {T : Type 0} (setup : Setup) (item : Item) (piece : List ℕ) (state : DeskState) (old new : Desk) (result : Result T Failed)
+pub record StepWrites {T : Type 0} (setup : Setup) (item : Item) (piece : List ℕ) (state : DeskState) (old new : DeskView) (result : Result T Failed)
     (bytes : List ℕ) (before after : Option (List ℕ)) (faults faults' : ℕ) (keeps : Type 0) : Type 0 where
   pub stands : Stands setup new (step setup item piece state).desk
   pub painted : (picture_of new).painted ≡ painted_after setup item (picture_of old).painted
@@ -36,7 +37,7 @@ step_bytes painted setup item piece state = posts_bytes painted (step setup item
 
 -- the desk stands for a state of a desktop of which the head of Picture records and the room for a row's
 -- bytes have the size
-pub record Suits (desk : Desk) (head : List ℕ) (line : ℕ) : Type 0 where
+pub record Suits (desk : DeskView) (head : List ℕ) (line : ℕ) : Type 0 where
   pub setup : Setup
   pub state : DeskState
   pub stands : Stands setup desk state

@@ -6,13 +6,6 @@ pub mod Parts
 pub mod ItemParts
 pub mod FeedReadings
 pub mod FeedRuns
-pub mod DeskPosts
 pub mod Answers
 pub mod Writes
-pub mod PictureView
-pub mod DeskStands
 pub mod ItemWrites
-pub mod WindowsView
-pub mod WindowChanges
-pub mod StreamFront
-pub mod PieceSteps

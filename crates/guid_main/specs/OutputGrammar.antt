@@ -6,14 +6,12 @@ use Rattle.std.specs.Fmt.{decimal}
 use Rattle.std.specs.Int.{w64, to_le_bytes}
 use Rattle.gui_wire.specs.Words.{word}
 use Rattle.desk_laws.specs.declared.setup.Setup.{Setup}
-use Rattle.desk_laws.specs.declared.item.Item.{Item}
-use Rattle.desk_laws.specs.declared.item.Item.TheVariants as items
 use Rattle.desk_laws.specs.Causes.{number_of, values_of}
-use Rattle.desk_laws.specs.Frames.{counted}
 use Rattle.desk_laws.specs.Items.{FedItem}
 use Rattle.desk_laws.specs.Scene.{Counts, Post, Reply, Ended, Picture, Summary}
 use Rattle.desk_laws.specs.State.{opening}
 use Rattle.desk_laws.specs.Steps.{run}
+use Rattle.desk_core.specs.Painting.{painted_after}
 use Rattle.guid_main.specs.RecordGrammar.{Record, BadStart, Run, whole}
 
 -- red, green and blue of a colour
@@ -63,11 +61,6 @@ post_bytes painted (Summary counts) = summary_record counts painted
 -- posts as they are written, one after the other
 abbrev pub posts_bytes : ℕ → List Post → List ℕ
 posts_bytes painted posts = flat_map (post_bytes painted) posts
-
--- the picture's count of drawn pixels after an item: each picture is drawn whole
-abbrev pub painted_after : Setup → Item → ℕ → ℕ
-painted_after setup items.Snap painted = counted (painted + setup.width * setup.height)
-painted_after setup item painted = painted
 
 -- the picture's count after these items
 abbrev pub painted_from : Setup → ℕ → List FedItem → ℕ

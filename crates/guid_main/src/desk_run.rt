@@ -4,14 +4,14 @@ ghost use Rattle.io_ports.specs.Counts.{Rose};
 ghost use Rattle.desk_laws.specs.Rules.{first_broken, Fits};
 ghost use Rattle.desk_laws.specs.State.{opening};
 ghost use Rattle.guid_main.specs.Answers.{RanOver, after_feed};
-ghost use Rattle.guid_main.specs.DeskStands.{Stands, picture_of};
+ghost use Rattle.desk_core.specs.DeskStands.{Stands, picture_of};
 ghost use Rattle.guid_main.specs.OutputGrammar.{picture_head};
 ghost use Rattle.guid_main.specs.RecordGrammar.{is_end};
 
-use crate::desk::Desk;
 use crate::item_writer::write_item;
 use crate::outcome::{Bounds, Outcome};
 use crate::picture_writer::picture_head;
+use desk_core::Desk;
 use desk_laws::{Item, Setup};
 use gui_num::NoMemory;
 use io_ports::{Feed, FeedFault, Sink};

@@ -4,14 +4,14 @@ ghost use Rattle.desk_laws.specs.Items.{FitsItem};
 ghost use Rattle.desk_laws.specs.Picture.{picture};
 ghost use Rattle.desk_laws.specs.State.{DeskState};
 ghost use Rattle.desk_laws.specs.declared.setup.Setup.{Setup as SetupValue};
-ghost use Rattle.guid_main.specs.DeskStands.{Stands, picture_of, pages_of, stepped_of};
+ghost use Rattle.desk_core.specs.DeskStands.{Stands, picture_of, pages_of, stepped_of};
 ghost use Rattle.guid_main.specs.ItemWrites.{StepWrites, Suits, guest_bytes_of, step_bytes};
 ghost use Rattle.guid_main.specs.OutputGrammar.{picture_head};
 
-use crate::desk::{Desk, Stepped};
 use crate::picture_writer::put_picture;
 use crate::post_writer::PostWriter;
 use crate::summary_writer::put_summary;
+use desk_core::{Desk, Stepped};
 use desk_laws::Item;
 use io_ports::{Failed, Sink};
 

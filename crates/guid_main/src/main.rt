@@ -2,24 +2,20 @@
 #![tactic(auto)]
 
 mod config;
-mod desk;
 mod desk_run;
 mod item_writer;
 #[cfg(test)]
 mod message_tests;
 mod outcome;
 mod part;
-mod picture;
 mod picture_writer;
 mod post_writer;
 mod replay_feed;
 mod run;
 mod status;
-mod stream;
 mod summary_writer;
 #[cfg(test)]
 mod tests;
-mod windows;
 
 use crate::run::run;
 use crate::status::Status;

@@ -5,7 +5,7 @@ ghost use Rattle.io_ports.specs.Content.{Grows, GrowsPart};
 ghost use Rattle.io_ports.specs.Counts.{HasCause};
 ghost use Rattle.guid_main.specs.OutputGrammar.{rgb, picture_head, picture_record};
 
-use crate::picture::Picture;
+use desk_core::Picture;
 use io_ports::{Failed, Sink, put_all};
 use std::alloc::{AllocError, Global};
 

@@ -4,7 +4,7 @@ ghost use Rattle.io_ports.specs.Content.{Grows, GrowsPart};
 ghost use Rattle.io_ports.specs.Counts.{HasCause};
 ghost use Rattle.guid_main.specs.OutputGrammar.{summary_record};
 
-use crate::desk::Summary;
+use desk_core::Summary;
 use io_ports::{Failed, Sink, put_all};
 
 // The Summary record.

@@ -241,3 +241,76 @@ counted-relayered from to focus id h here = by_in (is_in to id) refl
 -- a list gets shorter without a row that stands in it
 pub shorter-without : (id : RowId) (ids : List RowId) → is_in ids id ≡ true → length (without id ids) < length ids
 shorter-without id ids here = omega (arith, length-without id ids, times-some ids id here)
+
+-- ---- all rows that pass a test
+
+filtered-times : (b q s : Bool) (f t : ℕ) → (s ≡ true → q ≡ b) → f ≡ (if q then t else 0) → (if b then one_if s + f else f) ≡ (if q then one_if s + t else 0)
+filtered-times true true s f t h e = ap (λ n. one_if s + n) e
+filtered-times true false true f t h e = let k = h refl in cc
+filtered-times true false false f t h e = omega arith
+filtered-times false true true f t h e = let k = h refl in cc
+filtered-times false true false f t h e = omega arith
+filtered-times false false s f t h e = e
+
+-- a row stands among those that pass as often as before, if it passes
+pub times-filter : (p : RowId → Bool) (other : RowId) (ids : List RowId) → times other (filter p ids) ≡ (if p other then times other ids else 0)
+times-filter p other [] = none (p other)
+  where
+    zero_if : Bool → ℕ
+    zero_if b = if b then 0 else 0
+
+    none : (b : Bool) → 0 ≡ zero_if b
+    none true = refl
+    none false = refl
+times-filter p other (x ∷ ids) =
+    by_test (p x) ∙ filtered-times (p x) (p other) (same_row other x) _ _ (λ e. ap p (same-is other x e)) (times-filter p other ids)
+  where
+    by_test : (b : Bool) → times other (if b then x ∷ filter p ids else filter p ids) ≡ (if b then one_if (same_row other x) + times other (filter p ids) else times other (filter p ids))
+    by_test true = refl
+    by_test false = refl
+
+-- lists in which each row stands equally often, once at most, are equally long
+pub same-length : (xs ys : List RowId) → ((id : RowId) → times id xs ≤ 1) → ((id : RowId) → times id xs ≡ times id ys) → length xs ≡ length ys
+same-length [] [] once same = refl
+same-length [] (y ∷ ys) once same =
+    let e = same y in
+    let one : one_if (same_row y y) ≡ 1 = ap one_if (same-itself y) in
+    absurd (omega arith)
+same-length (x ∷ xs) ys once same =
+    let one : one_if (same_row x x) ≡ 1 = ap one_if (same-itself x) in
+    let h = once x in
+    let e = same x in
+    let rest : length xs ≡ length (without x ys) =
+    same-length xs (without x ys) (λ id. let k = once id in omega arith) (λ id. fewer id (same_row x id) refl (same id) (times-without id x ys) (omega arith)) in
+    omega (arith, length-without x ys)
+  where
+    fewer : (id : RowId) (b : Bool) → same_row x id ≡ b → times id (x ∷ xs) ≡ times id ys → times id (without x ys) ≡ (if same_row x id then 0 else times id ys) → times x xs ≡ 0
+        → times id xs ≡ times id (without x ys)
+    fewer id true s e w none =
+        let k : times id xs ≡ times x xs = ap (λ v. times v xs) (sym (same-is x id s)) in
+        let z : times id (without x ys) ≡ 0 = w ∙ ap (λ b. if b then 0 else times id ys) s in
+        omega arith
+    fewer id false s e w none =
+        let k : one_if (same_row id x) ≡ 0 = ap one_if (same-swapped id x ∙ s) in
+        let z : times id (without x ys) ≡ times id ys = w ∙ ap (λ b. if b then 0 else times id ys) s in
+        omega arith
+
+-- the rows that pass a test
+pub counted-filtered : (p : RowId → Bool) (normal over focus : List RowId) → AreCounted normal over focus → AreCounted (filter p normal) (filter p over) (filter p focus)
+counted-filtered p normal over focus h =
+    let once : (id : RowId) → times id (filter p focus) ≤ 1 = λ id. at_most (p id) _ _ (times-filter p id focus) (h.once id) in
+    let same : (id : RowId) → times id (filter p focus) ≡ times id (filter p normal) + times id (filter p over) =
+    λ id. both (p id) _ _ _ _ _ _ (times-filter p id focus) (times-filter p id normal) (times-filter p id over) (h.same id) in
+    record {
+      once = once;
+      same = same;
+      counted = same-length (filter p focus) (filter p normal ++ filter p over) once (λ id. same id ∙ sym (times-append id (filter p normal) (filter p over))) ∙ length-append (filter p normal) (filter p over);
+    }
+  where
+    at_most : (b : Bool) (m n : ℕ) → m ≡ (if b then n else 0) → n ≤ 1 → m ≤ 1
+    at_most true m n e h = omega arith
+    at_most false m n e h = omega arith
+
+    both : (b : Bool) (f n o f' n' o' : ℕ) → f' ≡ (if b then f else 0) → n' ≡ (if b then n else 0) → o' ≡ (if b then o else 0) → f ≡ n + o → f' ≡ n' + o'
+    both true f n o f' n' o' ef en eo h = omega arith
+    both false f n o f' n' o' ef en eo h = omega arith

@@ -4,8 +4,9 @@
 //! one is the first to have the focus. Stacking and focus are this project's own.
 #![tactic(auto)]
 
-ghost use Rattle.std.specs.Prelude.{◌≡◌, ◌+◌, ◌<◌, ◌≤◌, ◌↔◌, [], ◌∷◌, ◌++◌, false, if◌then◌else◌, length, reverse, slice_get, vec_len, vec_capacity, IsTrue, IsNone, IfOk};
+ghost use Rattle.std.specs.Prelude.{◌≡◌, ◌+◌, ◌<◌, ◌≤◌, ◌↔◌, [], ◌∷◌, ◌++◌, ◌==◌, not, filter, false, if◌then◌else◌, length, reverse, slice_get, vec_len, vec_capacity, IsTrue, IsNone, IfOk};
 ghost use Rattle.desk_laws.specs.Layers.{HaveRowsOnce, no_layers, is_in, without, to_end, entered, departed, raised, relayered, id_from_top};
+ghost use Rattle.desk_laws.specs.Following.{without_guest};
 
 use desk_laws::RowId;
 use gui_num::NoMemory;
@@ -62,14 +63,22 @@ impl Stacking {
         }
     }
 
-    /// Takes out a row that is unmapped or gone.
+    /// Takes out a row that is unmapped or gone, if it is there.
     pub fn leave(&mut self, id: RowId)
-        requires { IsTrue (is_in self.old.layers.focus id) }
         ensures { self.new ≡ record self.old { layers = departed id self.old.layers } }
     {
         take_out(&mut self.normal, id);
         take_out(&mut self.over, id);
         take_out(&mut self.focus, id);
+    }
+
+    /// Takes out all rows of a guest, counted from 0.
+    pub fn leave_guest(&mut self, guest: u32)
+        ensures { self.new ≡ record self.old { layers = without_guest guest self.old.layers } }
+    {
+        take_guest_out(&mut self.normal, guest);
+        take_guest_out(&mut self.over, guest);
+        take_guest_out(&mut self.focus, guest);
     }
 
     /// Puts a row on top of its layer and at the end of the focus list.
@@ -117,6 +126,13 @@ impl Stacking {
         self.focus.get(k).copied()
     }
 
+    /// Whether the row stands in the lists.
+    pub fn has(&self, id: RowId) -> bool
+        ensures { result ≡ is_in self.now.layers.focus id }
+    {
+        has(&self.focus, id)
+    }
+
     /// How many rows there are.
     pub fn len(&self) -> usize
         ensures is { result ≡ length self.now.layers.focus }
@@ -139,6 +155,13 @@ fn take_out(ids: &mut Vec<RowId>, id: RowId)
     ensures capacity { vec_capacity ids.new ≡ vec_capacity ids.old }
 {
     ids.retain(|other| id != *other);
+}
+
+fn take_guest_out(ids: &mut Vec<RowId>, guest: u32)
+    ensures items { ids.new.items ≡ filter (λ id. not (id.guest == guest)) ids.old.items }
+    ensures capacity { vec_capacity ids.new ≡ vec_capacity ids.old }
+{
+    ids.retain(|id| id.guest != guest);
 }
 
 fn put_first(ids: &mut Vec<RowId>, id: RowId)
@@ -233,6 +256,11 @@ mod tests {
         assert_eq!(rt; stack.len(), 2);
         assert_eq!(rt; rows_of(&stack, true), [Some(b), Some(a), None, None]);
         assert_eq!(rt; rows_of(&stack, false), [Some(b), Some(a), None, None]);
+        stack.enter(c, false);
+        assert_eq!(rt; (stack.has(b), stack.has(c)), (true, true));
+        stack.leave_guest(0);
+        assert_eq!(rt; (stack.has(b), stack.has(c)), (false, true));
+        assert_eq!(rt; rows_of(&stack, true), [Some(c), None, None, None]);
         Ok(())
     }
 }

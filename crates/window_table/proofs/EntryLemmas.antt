@@ -1,12 +1,12 @@
 -- Entries that stand apart, and their rows.
-use Rattle.std.proofs.Common.{◌≡◌, ℕ, ◌+◌, Bool, true, false, cond, not, ◌||◌, eqb, List, [], ◌∷◌, ◌++◌, length, map, filter, find, sum_by, Option, Some, None, is_some, option_map, refl, sym, ap, ◌∙◌, arith}
+use Rattle.std.proofs.Common.{◌≡◌, ℕ, ◌+◌, Bool, true, false, cond, not, eqb, List, [], ◌∷◌, ◌++◌, map, sum_by, Some, is_some, option_map, refl, sym, ap, ◌∙◌}
 use Rattle.std.proofs.lemmas.Bool.{eqb-true}
-use Rattle.std.proofs.lemmas.List.{map-append}
 use Rattle.std.proofs.lemmas.List.Sums.{sum_by-cons}
-use Rattle.desk_laws.specs.Rows.{Row, row_with}
+use Rattle.desk_laws.specs.Rows.{row_with}
 use Rattle.desk_laws.specs.Effects.{refs_of, refs_besides}
 use Rattle.window_table.specs.Entries.{Entry, entry_at, entry_with, changed_at, updated, besides_slot, removed, forgets_window, row_of, plain_rows, AreApart}
-use Rattle.window_table.proofs.OnceLemmas.{OnceBy, has_number, once-from, once-to, once-push, once-filter, once-map, none-find, find-map}
+use Rattle.window_table.proofs.OnceLemmas.{once-filter, once-from, once-map, once-push, once-to}
+use Rattle.window_table.proofs.AmongLemmas.{none-find}
 
 -- ---- what keeps entries apart
 

@@ -1,4 +1,16 @@
+pub mod PlaceLemmas
+pub mod MoveLemmas
 pub mod PartLemmas
+pub mod CutLemmas
 pub mod OnceLemmas
+pub mod AmongLemmas
+pub mod SumLemmas
 pub mod EntryLemmas
-pub mod KeptLemmas
+pub mod ForgetLemmas
+pub mod FindLemmas
+pub mod WriteLemmas
+pub mod RefLemmas
+pub mod EditLemmas
+pub mod EmptyLemmas
+pub mod AddLemmas
+pub mod RemoveLemmas

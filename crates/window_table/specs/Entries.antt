@@ -1,5 +1,5 @@
 -- What a table holds: an entry for each window, in the order in which they were added.
-use Rattle.std.specs.Prelude.{ℕ, ◌≡◌, ◌++◌, Bool, true, false, not, ◌==◌, List, [], ◌∷◌, map, filter, find, replicate, Option, Some, None, if◌then◌else◌}
+use Rattle.std.specs.Prelude.{ℕ, ◌≡◌, Bool, true, false, not, ◌==◌, List, [], map, filter, find, replicate, Option, Some, None, if◌then◌else◌}
 use Rattle.gui_num.specs.declared.Rect.{Rect}
 use Rattle.desk_laws.specs.Rows.{Row, DumpOf}
 use Rattle.desk_laws.specs.Effects.{name_without}

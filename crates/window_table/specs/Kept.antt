@@ -1,8 +1,7 @@
 -- How a table keeps its entries: the panes in a slab, the references beside it, and the slots in the
 -- order in which their windows were added.
-use Rattle.std.specs.Prelude.{ℕ, ◌≡◌, ◌<◌, ◌≤◌, Bool, true, false, ◌==◌, List, [], ◌∷◌, length, map, sum_by, Option, Some, None, is_some, slice_index_or, pos}
+use Rattle.std.specs.Prelude.{ℕ, ◌≡◌, ◌<◌, ◌≤◌, Bool, true, false, ◌==◌, List, [], length, map, sum_by, Option, Some, None, is_some, slice_index_or, pos}
 use Rattle.std.specs.List.{list_any}
-use Rattle.gui_num.specs.declared.Rect.{Rect}
 use Rattle.slab.specs.Slab.{Slab, get, slab_len}
 use Rattle.desk_laws.specs.Rows.{DumpOf}
 use Rattle.desk_laws.specs.Effects.{name_without}

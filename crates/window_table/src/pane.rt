@@ -24,8 +24,8 @@ pub struct Pane {
     pub class: ArrayVec<u8, 64>,
     /// The name of its class's instance, at most 64 bytes.
     pub name: ArrayVec<u8, 64>,
-    /// Flags, min width, min height, max width, max height, width increment, height increment, base
-    /// width and base height.
+    /// The fields of its WINDOW_HINTS in the order of `qubes-gui-protocol.h`: flags, min width, min
+    /// height, max width, max height, width increment, height increment, base width and base height.
     pub hints: [u32; 9],
     /// Its flags, as `qubes-gui-protocol.h` counts them.
     pub flags: u32,
@@ -38,6 +38,8 @@ pub struct Pane {
 /// The width and the height of a dump, in pixels.
 #[derive(Clone, Copy, Debug, PartialEq, Eq)]
 pub struct DumpSize {
+    /// Pixels in a row.
     pub width: u32,
+    /// Rows.
     pub height: u32,
 }

@@ -3,7 +3,7 @@ use Rattle.desk_laws.specs.State.{opening}
 use Rattle.desk_laws.specs.Steps.{run}
 use Rattle.guid_main.specs.declared.outcome.Outcome.{Outcome}
 use Rattle.guid_main.specs.Answers.{RanOver}
-use Rattle.guid_main.specs.DeskStands.{pages_of}
+use Rattle.desk_core.specs.DeskStands.{pages_of}
 use Rattle.guid_main.proofs.WriterLemmas.{rose_before}
 use Rattle.guid_main.proofs.RunLemmas.{started, stepped, ended, cut_short, no_item, too_long, piece_short, end_alone, fits_desk, end_or, one_guest}
 use Rattle.guid_main.proofs.DeskFacts.{pages_is}

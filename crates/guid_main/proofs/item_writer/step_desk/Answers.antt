@@ -1,6 +1,6 @@
 use Rattle.std.proofs.Common.{◌≡◌, refl, sym, ◌∙◌}
 use Rattle.desk_laws.specs.Steps.{step}
-use Rattle.guid_main.specs.DeskPosts.{guest_posts}
+use Rattle.desk_core.specs.DeskPosts.{guest_posts}
 use Rattle.guid_main.proofs.ItemWriteLemmas.{told_to}
 use Rattle.guid_main.proofs.WriterLemmas.{writes_all, writer_failed, writer_told}
 use Rattle.guid_main.proofs.item_writer.step_desk.Goals as goal

@@ -1,6 +1,6 @@
 use Rattle.std.proofs.Common.{sym, ◌∙◌, ap, ℕ, arith}
 use Rattle.guid_main.specs.OutputGrammar.{picture_head}
-use Rattle.guid_main.specs.PictureView.{PictureView}
+use Rattle.desk_core.specs.PictureView.{PictureView}
 use Rattle.guid_main.proofs.DeskFacts.{width_is, height_is}
 use Rattle.guid_main.proofs.ItemWriteLemmas.{item_failed, item_going, item_snap, item_ended, snap_is, end_is, wrote_of}
 use Rattle.guid_main.proofs.item_writer.write_item.Goals as goal

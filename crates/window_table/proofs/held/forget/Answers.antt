@@ -1,5 +1,4 @@
-use Rattle.std.proofs.Common.{arith}
-use Rattle.window_table.proofs.KeptLemmas.{forgot-more, forgot-all}
+use Rattle.window_table.proofs.ForgetLemmas.{forgot-more}
 use Rattle.window_table.proofs.held.forget.Goals as goal
 
 pub loop-key-preserved : goal.loop-key-preserved

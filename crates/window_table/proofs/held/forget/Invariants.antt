@@ -1,5 +1,4 @@
-use Rattle.std.proofs.Common.{◌≡◌}
-use Rattle.window_table.proofs.KeptLemmas.{ForgotSoFar}
+use Rattle.window_table.proofs.ForgetLemmas.{ForgotSoFar}
 use Rattle.window_table.proofs.held.forget.Given as goal
 
 abbrev pub invariant-loop-key : goal.invariant-loop-key

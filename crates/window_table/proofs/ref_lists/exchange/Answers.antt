@@ -1,6 +1,6 @@
-use Rattle.std.proofs.Common.{◌≡◌, ◌++◌, take, drop, length, ap, sym, ◌∙◌, arith}
+use Rattle.std.proofs.Common.{◌≡◌, ◌++◌, take, drop, ap, ◌∙◌, arith}
 use Rattle.gui_wire.specs.Seen.{references}
-use Rattle.window_table.specs.Parts.{last_put_back, spliced}
+use Rattle.window_table.specs.Parts.{last_put_back}
 use Rattle.window_table.proofs.PartLemmas.{put-back}
 use Rattle.window_table.proofs.ref_lists.exchange.Goals as goal
 

@@ -1,6 +1,6 @@
 use Rattle.std.proofs.Common.{◌≡◌, ◌+◌, ◌-◌, ◌<◌, arith, length, get_or, set, subst, sym}
 use Rattle.std.proofs.lemmas.List.{get_or_read}
-use Rattle.window_table.proofs.PartLemmas.{MovedSoFar, moved-start, moved-more, moved-end}
+use Rattle.window_table.proofs.MoveLemmas.{MovedSoFar, moved-start, moved-more, moved-end}
 use Rattle.window_table.proofs.ref_lists.move_after.Goals as goal
 
 pub loop-k-init : goal.loop-k-init

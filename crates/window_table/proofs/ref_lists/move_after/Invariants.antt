@@ -1,5 +1,5 @@
-use Rattle.std.proofs.Common.{◌≡◌, ◌<◌}
-use Rattle.window_table.proofs.PartLemmas.{MovedSoFar}
+use Rattle.std.proofs.Common.{◌<◌}
+use Rattle.window_table.proofs.MoveLemmas.{MovedSoFar}
 use Rattle.window_table.proofs.ref_lists.move_after.Given as goal
 
 abbrev pub invariant-loop-k : goal.invariant-loop-k

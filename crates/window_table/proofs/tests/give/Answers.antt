@@ -1,8 +1,8 @@
-use Rattle.std.proofs.Common.{◌≡◌, ◌<◌, ◌≤◌, ◌+◌, ℕ, List, [], true, Some, None, Option, is_some, length, subst, sym, arith, ap, refl, ◌∙◌}
+use Rattle.std.proofs.Common.{◌≡◌, ◌≤◌, ◌+◌, ℕ, List, [], true, Some, None, Option, is_some, length, subst, sym, arith, ap, refl, ◌∙◌}
 use Rattle.gui_wire.specs.Seen.{references}
 use Rattle.desk_laws.specs.Rows.{DumpOf}
 use Rattle.desk_laws.specs.Effects.{refs_besides}
-use Rattle.window_table.specs.Entries.{Entry, entry_at, entry_with, plain_rows, refs_in, with_dump, updated}
+use Rattle.window_table.specs.Entries.{Entry, entry_at, entry_with, plain_rows, refs_in, with_dump}
 use Rattle.window_table.proofs.EntryLemmas.{found-window, at-updated}
 use Rattle.window_table.proofs.tests.give.Goals as goal
 

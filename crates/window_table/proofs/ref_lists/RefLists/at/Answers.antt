@@ -1,6 +1,6 @@
-use Rattle.std.proofs.Common.{◌≡◌, ◌<◌, ◌+◌, [], length, get_or, subst, sym, arith, ap, ◌∙◌}
+use Rattle.std.proofs.Common.{◌<◌, ◌+◌, [], length, get_or, subst, sym, arith, ap, ◌∙◌}
 use Rattle.std.proofs.lemmas.List.{get_or_read}
-use Rattle.window_table.proofs.PartLemmas.{place-inside, part-place, part-at}
+use Rattle.window_table.proofs.CutLemmas.{place-inside, part-place, part-at}
 use Rattle.window_table.proofs.ref_lists.RefLists.at.Goals as goal
 
 pub index-requires : goal.index-requires

@@ -1,6 +1,7 @@
-use Rattle.std.proofs.Common.{◌≡◌, ℕ, ◌+◌, [], replicate, length, subst, sym, ap, ◌∙◌, arith}
-use Rattle.window_table.specs.Parts.{AreCuts, RefListsView, parts, no_lists}
-use Rattle.window_table.proofs.PartLemmas.{cuts-none, parts-none, length-parts}
+use Rattle.std.proofs.Common.{◌≡◌, ◌+◌, [], replicate, length, subst, sym, ap, ◌∙◌, arith}
+use Rattle.window_table.specs.Parts.{AreCuts, parts, no_lists}
+use Rattle.window_table.proofs.CutLemmas.{cuts-none, parts-none, seen-as}
+use Rattle.window_table.proofs.PartLemmas.{length-parts}
 use Rattle.window_table.proofs.ref_lists.RefLists.clear.Goals as goal
 
 pub invariant_of-self : goal.invariant_of-self
@@ -25,5 +26,4 @@ returns c =
     let zeros : c.fill.new.self.items ≡ replicate (n + 1) 0 = c.fill.ensures.items (λ y h. h) ∙ ap (λ k. replicate k 0) long in
     let lists : parts c.clear.new.self.items c.fill.new.self.items ≡ no_lists n =
     ap (λ xs. parts xs c.fill.new.self.items) c.clear.ensures.items ∙ ap (parts []) zeros ∙ parts-none n in
-    ap (λ ls. record { pages = s.pages; lists = ls }) lists
-    ∙ ap (λ v. record { pages = v.pages; lists = no_lists (length v.lists) }) c.self.view_is
+    seen-as s.pages _ _ _ lists (ap (λ v. record { pages = v.pages; lists = no_lists (length v.lists) }) c.self.view_is)

@@ -1,6 +1,6 @@
-use Rattle.std.proofs.Common.{◌≡◌, ◌<◌, ◌+◌, ◌-◌, [], length, get_or, subst, sym, arith, ap, ◌∙◌}
+use Rattle.std.proofs.Common.{◌<◌, ◌+◌, ◌-◌, [], length, get_or, subst, sym, arith, ap, ◌∙◌}
 use Rattle.std.proofs.lemmas.List.{get_or_read}
-use Rattle.window_table.proofs.PartLemmas.{place-inside, place-le, length-part}
+use Rattle.window_table.proofs.CutLemmas.{place-inside, place-le, length-part}
 use Rattle.window_table.proofs.ref_lists.RefLists.count.Goals as goal
 
 pub overflow_add-slot : goal.overflow_add-slot

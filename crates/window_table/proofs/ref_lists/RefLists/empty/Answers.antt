@@ -1,8 +1,8 @@
 use Rattle.std.proofs.Common.{◌≡◌, ◌<◌, ◌≤◌, [], length, set, sum_by, subst, sym, ap, ◌∙◌}
 use Rattle.gui_wire.specs.Words.{all_words}
 use Rattle.gui_wire.specs.Seen.{references}
-use Rattle.window_table.specs.Parts.{RefListsView, parts}
-use Rattle.window_table.proofs.PartLemmas.{none-fits}
+use Rattle.window_table.specs.Parts.{parts}
+use Rattle.window_table.proofs.CutLemmas.{none-fits}
 use Rattle.window_table.proofs.ref_lists.RefLists.empty.Goals as goal
 
 pub set-requires-clause-fits : goal.set-requires-clause-fits

@@ -1,6 +1,6 @@
 use Rattle.std.proofs.Common.{◌≡◌, [], replicate, ◌+◌, ap, sym, ◌∙◌, subst, arith}
-use Rattle.window_table.specs.Parts.{AreCuts, RefListsView, parts, no_lists}
-use Rattle.window_table.proofs.PartLemmas.{cuts-none, parts-none}
+use Rattle.window_table.specs.Parts.{AreCuts, parts, no_lists}
+use Rattle.window_table.proofs.CutLemmas.{cuts-none, parts-none}
 use Rattle.window_table.proofs.ref_lists.RefLists.new.Goals as goal
 
 pub invariant_of-result : goal.invariant_of-result

@@ -1,8 +1,8 @@
-use Rattle.std.proofs.Common.{◌≡◌, ◌<◌, ◌≤◌, ◌+◌, ◌-◌, [], length, get_or, set, sum_by, subst, sym, arith, ap, ◌∙◌}
+use Rattle.std.proofs.Common.{◌≡◌, ◌<◌, ◌≤◌, ◌+◌, ◌-◌, length, get_or, set, sum_by, subst, sym, arith, ap, ◌∙◌}
 use Rattle.std.proofs.lemmas.List.{get_or_read}
 use Rattle.gui_wire.specs.Seen.{references}
-use Rattle.window_table.specs.Parts.{AreCuts, RefListsView, parts, spliced, moved_after}
-use Rattle.window_table.proofs.PartLemmas.{place-inside, exchange-from, exchange-to, exchange-room, exchange-low, exchange-high, exchange-cuts, exchange-parts}
+use Rattle.window_table.specs.Parts.{AreCuts, parts, spliced, moved_after}
+use Rattle.window_table.proofs.CutLemmas.{place-inside, exchange-from, exchange-to, exchange-room, exchange-low, exchange-high, exchange-cuts, exchange-parts, seen-as}
 use Rattle.window_table.proofs.ref_lists.RefLists.set.Goals as goal
 
 pub index-from-requires : goal.index-from-requires
@@ -220,5 +220,4 @@ returns c =
     ap (λ xs. parts xs c.move_after.new.places.items) spliced_is
     ∙ ap (parts (spliced items (get_or places c.args.slot 0) (get_or places (c.args.slot + 1) 0) new)) moved_is
     ∙ exchange-parts items places new s.pages c.args.slot cuts slot fits in
-    ap (λ ls. record { pages = s.pages; lists = ls }) lists
-    ∙ ap (λ v. record { pages = v.pages; lists = set v.lists c.args.slot new }) c.self.view_is
+    seen-as s.pages _ _ _ lists (ap (λ v. record { pages = v.pages; lists = set v.lists c.args.slot new }) c.self.view_is)

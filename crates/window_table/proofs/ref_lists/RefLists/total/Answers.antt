@@ -1,5 +1,5 @@
-use Rattle.std.proofs.Common.{◌≡◌, length, sum_by, arith, ap, sym, ◌∙◌}
-use Rattle.window_table.proofs.PartLemmas.{sum-all}
+use Rattle.std.proofs.Common.{◌≡◌, length, sum_by, arith, ap, ◌∙◌}
+use Rattle.window_table.proofs.CutLemmas.{sum-all}
 use Rattle.window_table.proofs.ref_lists.RefLists.total.Goals as goal
 
 pub returns : goal.returns

@@ -1,13 +1,9 @@
-use Rattle.std.proofs.Common.{◌≡◌, ◌<◌, ◌≤◌, ◌+◌, ℕ, false, [], ◌∷◌, ◌++◌, is_some, Some, None, IsSome, option_map, length, get_or, set, sum_by, subst, sym, arith, ap, refl, ◌∙◌}
+use Rattle.std.proofs.Common.{◌≡◌, ◌<◌, false, [], ◌∷◌, ◌++◌, is_some, None, length, subst, sym, arith, ap, ◌∙◌}
 use Rattle.std.proofs.lemmas.List.{length-map}
-use Rattle.gui_wire.specs.Seen.{references}
-use Rattle.slab.specs.Slab.{get, with_value}
-use Rattle.desk_laws.specs.Effects.{refs_besides}
-use Rattle.window_table.specs.Entries.{Entry, TableView, entry_at, entry_with, updated, removed, with_pane, with_dump, size_of_dump, refs_in, plain_rows, new_pane, new_entry}
-use Rattle.window_table.specs.Kept.{IsKept, entry_in, entries_of, window_of, size_in, pane_in, dump_of, holds, among, entry_of}
+use Rattle.window_table.specs.Entries.{entry_at, entry_with, new_entry}
+use Rattle.window_table.specs.Kept.{IsKept, entry_in, entries_of}
 use Rattle.window_table.specs.declared.held.Held.{Held}
-use Rattle.window_table.specs.Parts.{RefListsView, no_lists}
-use Rattle.window_table.proofs.KeptLemmas.{kept-add, entries-add, new-free}
+use Rattle.window_table.proofs.AddLemmas.{kept-add, entries-add, new-free}
 use Rattle.window_table.proofs.table.Table.add.Goals as goal
 
 pub invariant_of-self : goal.invariant_of-self

@@ -1,12 +1,9 @@
-use Rattle.std.proofs.Common.{◌≡◌, ◌<◌, ◌≤◌, ◌+◌, ℕ, [], Some, None, IsSome, IfSome, is_some, find, option_map, length, get_or, set, sum_by, subst, sym, arith, ap, refl, ◌∙◌}
-use Rattle.gui_wire.specs.Seen.{references}
-use Rattle.slab.specs.Slab.{get, with_value}
+use Rattle.std.proofs.Common.{◌≡◌, ◌≤◌, ℕ, IfSome, is_some, find, option_map, subst, sym, arith, ap, ◌∙◌}
 use Rattle.desk_laws.specs.Effects.{refs_besides}
-use Rattle.window_table.specs.Entries.{Entry, TableView, entry_at, entry_with, updated, removed, with_pane, with_dump, size_of_dump, refs_in, plain_rows, new_pane, new_entry}
-use Rattle.window_table.specs.Kept.{IsKept, entry_in, entries_of, window_of, size_in, pane_in, dump_of, holds, among, entry_of}
-use Rattle.window_table.specs.declared.held.Held.{Held}
-use Rattle.window_table.specs.Parts.{RefListsView, no_lists}
-use Rattle.window_table.proofs.KeptLemmas.{slot-of-window, same-entry, known-entry, besides-le}
+use Rattle.window_table.specs.Entries.{entry_at, entry_with, plain_rows}
+use Rattle.window_table.specs.Kept.{holds}
+use Rattle.window_table.proofs.FindLemmas.{slot-of-window, same-entry, known-entry}
+use Rattle.window_table.proofs.RefLemmas.{besides-le}
 use Rattle.window_table.proofs.table.Table.slot_of.Goals as goal
 
 pub returns-clause-slot : goal.returns-clause-slot

@@ -1,0 +1,9 @@
+pub mod PictureView
+pub mod Painting
+pub mod Drawing
+pub mod DeskPosts
+pub mod DeskView
+pub mod DeskStands
+pub mod PieceSteps
+pub mod Stacked
+pub mod Kept
