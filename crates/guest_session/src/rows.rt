@@ -23,19 +23,17 @@ use window_table::{Pane, Table};
 #[derive(Drop)]
 pub(crate) struct Rows {
     guest: u32,
-    pages: u32,
     table: Table,
 }
 
 impl Model for Rows {
-    ghost use Rattle.std.specs.Prelude.{◌≡◌};
     ghost use Rattle.guest_session.specs.RowsView.{RowsView, AreKept, viewed};
 
     ghost Value = { RowsView };
 
-    ghost view = { λ r. viewed r.guest r.pages r.table };
+    ghost view = { λ r. viewed r.guest r.table.pages r.table };
 
-    ghost invariant = { λ r. AreKept r.table × (r.table.pages ≡ r.pages) };
+    ghost invariant = { λ r. AreKept r.table };
 }
 
 impl Rows {
@@ -46,7 +44,6 @@ impl Rows {
     {
         Ok(Rows {
             guest,
-            pages,
             table: Table::new(alloc, pages)?,
         })
     }
@@ -103,8 +100,9 @@ impl Rows {
             (λ cause. first_cause self.now.pages self.now.rows header (message msg.now) ≡ Some cause) }
         ensures command { MatchResult result (IsCommandOf (message msg.now)) (λ _. Unit {0}) }
     {
-        let _ = self.table.slot_of(header.window);
-        let limits = Limits { pages: self.pages };
+        let limits = Limits {
+            pages: self.table.pages(),
+        };
         message_checks::check(msg, header, &limits, &self.table)
     }
 

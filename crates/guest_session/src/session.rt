@@ -26,7 +26,12 @@ use std::alloc::Global;
 use std::marker::Model;
 use window_table::Pane;
 
-/// One guest's session.
+/// One guest's session: the bytes that were taken of it, its windows in the order of their CREATE, its
+/// minor version, and why it ended, if it did. It knows no other guest, and nothing of what lies on
+/// top of what.
+///
+/// A caller hands bytes to `push` and calls `turn` until it answers Wait. Where `turn` answers
+/// ClipWhole or ClipOver, it calls `clip_done` before the next `turn`.
 #[derive(Drop)]
 pub struct Session {
     numbers: Numbers,
@@ -91,6 +96,11 @@ impl Session {
     /// outlet. Wait exactly where none is there whole. A message that is refused ends the session with
     /// its cause, its windows are then gone, and nothing is answered; that the session ended isn't
     /// posted here. After the end it answers Wait and does nothing.
+    ///
+    /// A version word whose major number isn't 1 is refused (`BadVersion`), and what `InStream::front`
+    /// and `message_checks::check` refuse. Answered are the version word, CONFIGURE, and from minor
+    /// version 7 on WINDOW_DUMP; that an agent below version 1.4 isn't told the daemon's own version is
+    /// this project's own.
     pub fn turn<O: Outlet>(&mut self, out: &mut O) -> Turn
         ensures turned { self.old.ended ≡ None → (rest : List ℕ) → StandsFor self.old.stream rest → Turns O.takes out.old out.new self.old self.new result (front self.old.stream.greeted rest) }
         ensures over { (cause : Cause) → self.old.ended ≡ Some cause → (result ≡ Turn.Wait) × (self.new ≡ self.old) × (out.new ≡ out.old) }

@@ -43,6 +43,13 @@ impl RefLists {
         })
     }
 
+    // How many references the lists may have together.
+    pub(crate) fn pages(&self) -> u32
+        ensures { result ≡ self.now.pages }
+    {
+        self.pages
+    }
+
     // The number of references of a slot.
     pub(crate) fn count(&self, slot: usize) -> u32
         requires { slot < length self.now.lists }

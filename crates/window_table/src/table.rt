@@ -96,6 +96,14 @@ impl Table {
         self.order.len() as u32
     }
 
+    /// How many page references the windows may have together. They have no more.
+    pub fn pages(&self) -> u32
+        ensures is { result ≡ self.now.pages }
+        ensures held { (other : ℕ) → effects.refs_besides other (plain_rows self.now.entries) ≤ self.now.pages }
+    {
+        self.refs.pages()
+    }
+
     /// The pane of a slot that is held.
     pub fn get(&self, slot: u32) -> &Pane
         requires { IsSome (entry_at slot self.now.entries) }

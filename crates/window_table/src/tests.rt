@@ -88,6 +88,7 @@ fn seen<I: Ids>(ids: &I, window: u32) -> (bool, u32, u32) {
 #[test]
 fn holds_so_many_windows(rt: HostRuntime) -> Result<(), Fail> {
     let mut table = Table::new(rt.alloc(), 8)?;
+    assert_eq!(rt; table.pages(), 8);
     assert_eq!(rt; table.len(), 0);
     let mut added = 0;
     for window in 1..1100u32 {

@@ -19,9 +19,9 @@ invariant_of-self c =
     let h = has_slot c.args.window c.in-Some.slot table.entries c.slot_of.ensures.apart c.in-Some.ensures.slot in
     let pane : h.entry.pane ≡ c.get_mut.result.now = got-is c.args.window c.in-Some.slot table.entries h (λ e. e.pane) c.get_mut.result.now c.get_mut.ensures.pane in
     let P : Pane → Type 0 = λ p. IsPlace p.place in
-    let old : IsPlace c.get_mut.result.now.place = subst P pane (placed-at-slot c.args.window c.in-Some.slot table h c.self.invariant.0) in
+    let old : IsPlace c.get_mut.result.now.place = subst P pane (placed-at-slot c.args.window c.in-Some.slot table h c.self.invariant) in
     let new : IsPlace c.edit_pane.new.pane.place = subst P (sym c.edit_pane.ensures) (edited-place c.args.edit.now c.get_mut.result.now c.requires old) in
-    (kept-updated c.in-Some.slot (with_pane c.edit_pane.new.pane) table _ c.self.invariant.0 (λ _ _ _. new) refl, c.self.invariant.1)
+    kept-updated c.in-Some.slot (with_pane c.edit_pane.new.pane) table _ c.self.invariant (λ _ _ _. new) refl
 
 pub returns-in-Some : goal.returns-in-Some
 returns-in-Some c = λ row found.
@@ -33,12 +33,12 @@ returns-in-Some c = λ row found.
     let made : own_row guest (with_pane c.edit_pane.new.pane h.entry) ≡ row_edited edit row =
     ap (λ (p : Pane). own_row guest (with_pane p h.entry)) (c.edit_pane.ensures ∙ ap (pane_edited edit) (sym pane))
     ∙ edited-row guest edit h.entry
-    ∙ ap (row_edited edit) (row-is guest c.self.inside.pages c.args.window c.in-Some.slot table c.args.self.now h row c.self.view_is found) in
-    viewed-updated guest c.self.inside.pages c.args.window c.in-Some.slot table _ h c.slot_of.ensures.apart (with_pane c.edit_pane.new.pane) (row_edited edit row) refl made refl
+    ∙ ap (row_edited edit) (row-is guest c.self.inside.table.pages c.args.window c.in-Some.slot table c.args.self.now h row c.self.view_is found) in
+    viewed-updated guest c.self.inside.table.pages c.args.window c.in-Some.slot table _ h c.slot_of.ensures.apart (with_pane c.edit_pane.new.pane) (row_edited edit row) refl made refl
     ∙ ap (with_row (row_edited edit row)) c.self.view_is
 
 pub returns-in_default : goal.returns-in_default
 returns-in_default c = λ row found.
-    let none = row-none c.self.inside.guest c.self.inside.pages c.args.window c.self.inside.table c.args.self.now c.self.view_is c.in_default.ensures.slot in
+    let none = row-none c.self.inside.guest c.self.inside.table.pages c.args.window c.self.inside.table c.args.self.now c.self.view_is c.in_default.ensures.slot in
     let both : None ≡ Some row = sym none ∙ found in
     absurd cc
