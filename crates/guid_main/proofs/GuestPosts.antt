@@ -1,5 +1,5 @@
 -- Which posts of a step are for guests: all, but for a Picture at Snap and the Summary at End.
-use Rattle.std.proofs.Common.{◌≡◌, ℕ, List, [], ◌∷◌, ◌++◌, Option, Some, None, Bool, true, false, if◌then◌else◌, refl, sym, ◌∙◌, ap}
+use Rattle.std.proofs.Common.{◌≡◌, ℕ, List, [], ◌∷◌, ◌++◌, Option, Some, None, Bool, true, false, refl, sym, ◌∙◌, ap}
 use Rattle.std.proofs.lemmas.List.Elements.{filter-append}
 use Rattle.desk_laws.specs.declared.setup.Setup.{Setup}
 use Rattle.desk_laws.specs.declared.cause.Cause.{Cause}
@@ -17,7 +17,7 @@ use Rattle.desk_laws.specs.Scene.{Scene, Post, Reply, Ended, Picture, Summary, I
 use Rattle.desk_laws.specs.State.{DeskState, session_of, count_item}
 use Rattle.desk_laws.specs.Settle.{settle}
 use Rattle.desk_laws.specs.Events.{route}
-use Rattle.desk_laws.specs.Steps.{ends, end_told, unit_told, unit_done, unit_effect, unit_of_open, take_unit, take_units, with_rest, bytes_of_open, take_bytes, end_of_open, end_session, store_of_open, event, step}
+use Rattle.desk_laws.specs.Steps.{ends, end_told, unit_told, unit_done, unit_effect, unit_of_open, take_unit, take_units, with_rest, bytes_of_open, take_bytes, end_of_open, store_of_open, event, step}
 use Rattle.desk_core.specs.DeskPosts.{is_for_guest, guest_posts}
 use Rattle.guid_main.specs.OutputGrammar.{post_bytes, posts_bytes}
 use Rattle.guid_main.specs.RecordGrammar.{is_end}

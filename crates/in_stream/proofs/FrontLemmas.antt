@@ -1,15 +1,14 @@
 -- What is known of what a receive buffer shows.
-use Rattle.std.proofs.Common.{◌≡◌, ℕ, zero, suc, ◌+◌, ◌-◌, ◌<◌, ◌≤◌, Bool, true, false, ◌==◌, nat_lt, nat_le, cond, if◌then◌else◌, List, [], ◌∷◌, ◌++◌, length, take, drop, Option, Some, None, Result, Ok, Err, refl, sym, ◌∙◌, ap, ◌⊎◌, inl, inr, min, arith, length-take, length-drop, length-append}
+use Rattle.std.proofs.Common.{◌≡◌, ℕ, ◌+◌, ◌-◌, ◌<◌, ◌≤◌, Bool, true, false, ◌==◌, nat_le, if◌then◌else◌, List, [], ◌∷◌, ◌++◌, length, take, drop, Option, Some, None, Result, Ok, Err, refl, sym, ◌∙◌, ap, inl, inr, arith, length-drop, length-append}
 use Rattle.std.specs.Prelude.{◌&&◌}
 use Rattle.std.proofs.lemmas.Bool.Decides.{nat_tests}
-use Rattle.std.proofs.lemmas.Grind.{common_steps}
 use Rattle.gui_wire.specs.declared.Header.{Header}
 use Rattle.gui_wire.specs.declared.LengthRule.{LengthRule}
 use Rattle.gui_wire.specs.declared.LengthRule.TheVariants.{Unknown, Exactly, Clip, Dump}
 use Rattle.gui_wire.specs.declared.WireFault.{WireFault}
-use Rattle.gui_wire.specs.declared.WireFault.TheVariants.{Kind, Length}
+use Rattle.gui_wire.specs.declared.WireFault.TheVariants.{Length}
 use Rattle.gui_wire.specs.AgentMessages.{rules, rule_in, rule_of, fits_rule}
-use Rattle.gui_wire.specs.Headers.{header_at, head_result, result_by}
+use Rattle.gui_wire.specs.Headers.{header_at, head_result}
 use Rattle.desk_laws.specs.declared.cause.Cause.{Cause}
 use Rattle.desk_laws.specs.declared.cause.Cause.TheVariants.{BadType, BadLength, ClipTooLong}
 use Rattle.desk_laws.specs.Stream as stream
@@ -21,7 +20,7 @@ use Rattle.in_stream.proofs.TakingLemmas.{passes-short, passes-long, lt_or_le}
 use Rattle.in_stream.specs.Taking.{passes, room}
 use Rattle.in_stream.specs.Received.{Received, StandsFor, longest}
 use Rattle.in_stream.specs.Invariant.{IsSound}
-use Rattle.in_stream.specs.Shown.{Shown, Whole, Bad, ClipLong, Skipped, Skipping, Need, is_passed_over, lacking, waiting, faulty, complete, shown_of, shown, checked_if, checked_head}
+use Rattle.in_stream.specs.Shown.{Whole, Bad, ClipLong, Skipped, Skipping, Need, is_passed_over, lacking, waiting, faulty, complete, shown_of, shown, checked_if, checked_head}
 
 -- ---- rules by type
 

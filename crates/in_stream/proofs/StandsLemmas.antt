@@ -1,14 +1,13 @@
 -- What is known of the rests that a receive buffer stands for.
-use Rattle.std.proofs.Common.{◌≡◌, ℕ, zero, suc, ◌+◌, ◌-◌, ◌<◌, ◌≤◌, Bool, true, false, List, [], ◌∷◌, ◌++◌, length, take, drop, Option, Some, None, refl, sym, ◌∙◌, ap, ◌⊎◌, inl, inr, min, arith, length-take, length-drop, length-append, append_assoc}
+use Rattle.std.proofs.Common.{◌≡◌, ℕ, zero, suc, ◌+◌, ◌-◌, ◌<◌, ◌≤◌, Bool, true, false, List, [], ◌∷◌, ◌++◌, length, take, drop, Option, Some, None, refl, sym, ◌∙◌, ap, ◌⊎◌, inl, inr, arith, length-take, length-drop, length-append, append_assoc}
 use Rattle.std.proofs.Math.Seq.{drop-append-add}
 use Rattle.std.proofs.lemmas.Bool.Decides.{nat_tests}
 use Rattle.std.proofs.lemmas.Grind.{common_steps}
 use Rattle.std.proofs.lemmas.List.{drop-append-le, take-append-le, take-append-drop, drop-drop}
 use Rattle.gui_wire.specs.Headers.{header_at}
-use Rattle.desk_laws.specs.Stream.{StreamUnit, Front, Wait, Fault, Takes, front_by, front_of, head_fault}
+use Rattle.desk_laws.specs.Stream.{StreamUnit, Takes, front_by, front_of, head_fault}
 use Rattle.desk_laws.proofs.Cutting.{Faults, header_at-append, front_by-whole_header, takes-whole_header}
-use Rattle.in_stream.specs.Received.{Received, StandsFor, longest}
-use Rattle.in_stream.specs.Shown.{is_passed_over}
+use Rattle.in_stream.specs.Received.{Received, StandsFor}
 use Rattle.in_stream.specs.Taking.{HasUnit, DropsUnit}
 use Rattle.in_stream.specs.Invariant.{IsSound}
 

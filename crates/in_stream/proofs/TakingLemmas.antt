@@ -1,18 +1,14 @@
 -- What is known of taking bytes: of a body that is passed over, and of the room for the others.
-use Rattle.std.proofs.Common.{◌≡◌, ℕ, zero, suc, ◌+◌, ◌-◌, ◌<◌, ◌≤◌, Bool, true, false, nat_lt, nat_le, if◌then◌else◌, List, [], ◌∷◌, ◌++◌, length, take, drop, Option, Some, None, refl, sym, ◌∙◌, ap, ◌⊎◌, inl, inr, min, arith, length-take, length-drop, length-append, append_assoc}
-use Rattle.std.specs.Prelude.{◌&&◌}
-use Rattle.std.proofs.Math.Seq.{take-add}
+use Rattle.std.proofs.Common.{◌≡◌, ℕ, zero, suc, ◌+◌, ◌-◌, ◌<◌, ◌≤◌, Bool, true, false, List, ◌++◌, length, take, drop, refl, sym, ◌∙◌, ap, ◌⊎◌, inl, inr, min, arith, length-take, length-drop, length-append, append_assoc}
 use Rattle.std.proofs.lemmas.Bool.Decides.{nat_tests}
-use Rattle.std.proofs.lemmas.Grind.{common_steps}
 use Rattle.std.proofs.lemmas.List.{append-nil, take-append-drop, drop-drop, take_all, drop_all, take_at, drop_at}
 use Rattle.gui_wire.specs.Headers.{header_at}
-use Rattle.desk_laws.specs.Stream.{StreamUnit, Front, Wait, front_by, head_fault}
 use Rattle.desk_laws.proofs.Cutting.{header_at-append}
 use Rattle.in_stream.specs.Received.{Received, StandsFor, longest}
 use Rattle.in_stream.specs.Shown.{is_passed_over}
-use Rattle.in_stream.specs.Taking.{passes, to_skip, kept, room}
+use Rattle.in_stream.specs.Taking.{passes, to_skip, kept}
 use Rattle.in_stream.specs.Invariant.{IsSound}
-use Rattle.in_stream.proofs.StandsLemmas.{empty, none_or_more, stands-length, stands-short, stands-header, bounded, nothing_skipped, stands-holds}
+use Rattle.in_stream.proofs.StandsLemmas.{empty, stands-length, stands-short, stands-header, nothing_skipped, stands-holds}
 
 -- ---- where nothing is passed over
 

@@ -1,5 +1,5 @@
 -- What is true of each receive buffer.
-use Rattle.std.specs.Prelude.{◌≡◌, ℕ, ◌<◌, ◌≤◌, true, length}
+use Rattle.std.specs.Prelude.{◌≡◌, ◌<◌, ◌≤◌, true, length}
 use Rattle.gui_wire.specs.Headers.{header_at}
 use Rattle.in_stream.specs.Received.{Received, longest}
 use Rattle.in_stream.specs.Shown.{is_passed_over}

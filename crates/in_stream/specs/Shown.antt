@@ -5,7 +5,7 @@ use Rattle.gui_wire.specs.declared.WireFault.{WireFault}
 use Rattle.gui_wire.specs.declared.WireFault.TheVariants.{Kind, Length}
 use Rattle.gui_wire.specs.Headers.{header_at, head_result}
 use Rattle.desk_laws.specs.declared.cause.Cause.{Cause}
-use Rattle.desk_laws.specs.declared.cause.Cause.TheVariants.{BadType, BadLength, ClipTooLong}
+use Rattle.desk_laws.specs.declared.cause.Cause.TheVariants.{BadType, BadLength}
 use Rattle.desk_laws.specs.Stage.{takes_type}
 use Rattle.desk_laws.specs.Stream as stream
 use Rattle.desk_laws.specs.Stream.{StreamUnit, Front, Wait, Fault, Takes, front_by, head_fault}

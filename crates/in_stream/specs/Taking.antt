@@ -1,5 +1,5 @@
 -- How a receive buffer takes bytes and lets units go.
-use Rattle.std.specs.Prelude.{◌≡◌, ℕ, ◌+◌, ◌-◌, Bool, true, false, ◌&&◌, nat_le, List, length, if◌then◌else◌}
+use Rattle.std.specs.Prelude.{◌≡◌, ℕ, ◌+◌, ◌-◌, Bool, ◌&&◌, nat_le, List, length, if◌then◌else◌}
 use Rattle.gui_wire.specs.Headers.{header_at}
 use Rattle.desk_laws.specs.Stream.{StreamUnit, Takes, front_by, head_fault}
 use Rattle.in_stream.specs.Received.{Received, StandsFor, longest}

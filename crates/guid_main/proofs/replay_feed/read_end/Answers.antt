@@ -1,7 +1,6 @@
 use Rattle.std.proofs.Common.{◌≡◌, ℕ, ◌++◌, List, length, slice_index, Ok, Err, refl, sym, ◌∙◌, ap, arith}
 use Rattle.io_ports.specs.declared.feed.RecordKind.TheVariants as kinds
 use Rattle.desk_laws.specs.declared.item.Item.{Item}
-use Rattle.desk_laws.specs.Items.{FedItem}
 use Rattle.guid_main.specs.RecordGrammar.{alone, guest_at}
 use Rattle.guid_main.specs.ItemParts.{item_of_end, item_size}
 use Rattle.guid_main.proofs.ItemLemmas.{Behind, part_unfound, part_behind, fault_behind, whole_found, guest_short, guest_range, guest_found, end_size}

@@ -1,5 +1,4 @@
-use Rattle.std.proofs.Common.{◌≡◌, ◌+◌, ◌-◌, ◌≤◌, drop, length, true, false, ap, sym, ◌∙◌, arith, subst}
-use Rattle.gui_wire.specs.Headers.{header_at}
+use Rattle.std.proofs.Common.{◌≡◌, true, ap, ◌∙◌}
 use Rattle.in_stream.specs.Received.{Received}
 use Rattle.in_stream.specs.Taking.{HasUnit}
 use Rattle.in_stream.proofs.StandsLemmas.{drops_message, holds_message}

@@ -1,7 +1,5 @@
-use Rattle.std.proofs.Common.{◌≡◌, drop, true, false, ap, sym, ◌∙◌, subst}
+use Rattle.std.proofs.Common.{◌≡◌, false, ap, ◌∙◌}
 use Rattle.in_stream.specs.Received.{Received}
-use Rattle.in_stream.specs.Taking.{DropsUnit}
-use Rattle.in_stream.specs.Invariant.{IsSound}
 use Rattle.in_stream.proofs.StandsLemmas.{drops_word}
 use Rattle.in_stream.proofs.stream.InStream.drop_word.Goals as goal
 

@@ -1,5 +1,4 @@
-use Rattle.std.proofs.Common.{◌≡◌, ◌+◌, ◌-◌, ◌<◌, ◌≤◌, true, false, length, take, drop, ◌++◌, min, sym, ap, ◌∙◌, inl, inr, arith, rules}
-use Rattle.std.proofs.lemmas.Bool.Decides.{nat_tests}
+use Rattle.std.proofs.Common.{◌≡◌, ◌-◌, ◌≤◌, true, length, min, sym, ap, ◌∙◌, inl, inr}
 use Rattle.gui_wire.specs.Headers.{header_at}
 use Rattle.in_stream.specs.Received.{Received, StandsFor}
 use Rattle.in_stream.specs.Shown.{is_passed_over}
