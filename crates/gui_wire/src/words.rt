@@ -7,7 +7,7 @@ use byteorder::{ByteOrder, LittleEndian};
 // The bytes of a header.
 pub const HEAD_LEN: usize = 12;
 
-// The numbers of hints, of which there are nine.
+/// The numbers of hints, of which there are nine.
 pub fn hint_numbers(hints: &[u32; 9]) -> &[u32]
     ensures value { result.now ≡ hints.now }
     ensures len { length hints.now ≡ 9 }
@@ -15,7 +15,7 @@ pub fn hint_numbers(hints: &[u32; 9]) -> &[u32]
     hints
 }
 
-// The keys of a keymap, of which there are 32 bytes.
+/// The keys of a keymap, of which there are 32 bytes.
 pub fn key_bytes(keys: &[u8; 32]) -> &[u8]
     ensures value { result.now ≡ keys.now }
     ensures len { length keys.now ≡ 32 }
@@ -23,7 +23,7 @@ pub fn key_bytes(keys: &[u8; 32]) -> &[u8]
     keys
 }
 
-// The number with index i, from 0.
+/// The number with index i, from 0.
 pub fn word_at(bytes: &[u8], i: usize) -> u32
     requires { 4 * i + 4 ≤ length bytes.now }
     ensures { result ≡ word_at i bytes.now }
@@ -31,7 +31,7 @@ pub fn word_at(bytes: &[u8], i: usize) -> u32
     LittleEndian::read_u32(&bytes[4 * i..])
 }
 
-// The number with index i, from 0, as two's complement.
+/// The number with index i, from 0, as two's complement.
 pub fn signed_at(bytes: &[u8], i: usize) -> i32
     requires { 4 * i + 4 ≤ length bytes.now }
     ensures { result ≡ signed_at i bytes.now }
@@ -50,7 +50,7 @@ pub fn spell_word(word: u32, out: &mut [u8]) -> usize
     4
 }
 
-// Writes numbers one after the other, and answers how many bytes that are. The rest of `out` stays.
+/// Writes numbers one after the other, and answers how many bytes that are. The rest of `out` stays.
 pub fn spell_words(numbers: &[u32], out: &mut [u8]) -> usize
     requires { 4 * length numbers.now ≤ length out.old }
     ensures out { out.new ≡ words numbers.now ++ drop (4 * length numbers.now) out.old }
@@ -61,7 +61,7 @@ pub fn spell_words(numbers: &[u32], out: &mut [u8]) -> usize
     len
 }
 
-// Writes bytes, and answers how many they are. The rest of `out` stays.
+/// Writes bytes, and answers how many they are. The rest of `out` stays.
 pub fn spell_bytes(bytes: &[u8], out: &mut [u8]) -> usize
     requires { length bytes.now ≤ length out.old }
     ensures out { out.new ≡ bytes.now ++ drop (length bytes.now) out.old }
@@ -72,7 +72,7 @@ pub fn spell_bytes(bytes: &[u8], out: &mut [u8]) -> usize
     len
 }
 
-// Writes a message whose body is numbers.
+/// Writes a message whose body is numbers.
 pub fn spell_numbers(kind: u32, window: u32, numbers: &[u32], out: &mut [u8]) -> usize
     requires room { 12 + 4 * length numbers.now ≤ length out.old }
     requires small { length numbers.now ≤ 9 }
@@ -85,7 +85,7 @@ pub fn spell_numbers(kind: u32, window: u32, numbers: &[u32], out: &mut [u8]) ->
     at + spell_words(numbers, &mut out[at..])
 }
 
-// Writes a message whose body is two lists of bytes, one after the other.
+/// Writes a message whose body is two lists of bytes, one after the other.
 pub fn spell_parts(kind: u32, window: u32, front: &[u8], back: &[u8], out: &mut [u8]) -> usize
     requires room { 12 + length front.now + length back.now ≤ length out.old }
     requires small { length front.now + length back.now < 2 ^ 32 }

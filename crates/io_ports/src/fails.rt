@@ -25,6 +25,8 @@ impl Model for Fails {
 }
 
 impl Fails {
+    /// No call was made yet; those with these numbers, counted from 1, are to fail. `NoMemory` where
+    /// there is none to keep the numbers.
     pub fn new(alloc: Global, numbers: &[u64]) -> Result<Self, NoMemory>
         ensures { IfOk result (λ f. f ≡ to_fail numbers.now) }
     {
@@ -35,7 +37,7 @@ impl Fails {
         })
     }
 
-    // Counts a call, and answers whether it fails.
+    /// Counts a call, and answers whether it fails.
     pub fn next(&mut self) -> bool
         ensures fails { IsTrue result ↔ FailsNext self.old }
         ensures counts { self.new ≡ failing_after result self.old }

@@ -22,6 +22,7 @@ impl Model for HeldBytes {
 }
 
 impl HeldBytes {
+    /// These bytes, of which none was given yet. `NoMemory` where there is none to keep them.
     pub fn new(alloc: Global, bytes: &[u8]) -> Result<Self, NoMemory>
         ensures { IfOk result (λ h. h ≡ bytes.now) }
     {
@@ -31,7 +32,7 @@ impl HeldBytes {
         })
     }
 
-    // Moves as many bytes as fit into the front of the room, and answers how many.
+    /// Moves as many bytes as fit into the front of the room, and answers how many.
     pub fn give(&mut self, room: &mut [u8]) -> usize
         ensures count { result ≡ min (length room.old) (length self.old) }
         ensures left { self.new ≡ drop result self.old }

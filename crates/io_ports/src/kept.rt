@@ -22,6 +22,7 @@ impl Model for KeptBytes {
 }
 
 impl KeptBytes {
+    /// No bytes yet.
     pub fn new(alloc: Global) -> Self
         ensures { result ≡ none_kept }
     {
@@ -31,12 +32,14 @@ impl KeptBytes {
         }
     }
 
+    /// The bytes that were kept.
     pub fn bytes(&self) -> &[u8]
         ensures { result.now ≡ self.now.items }
     {
         &self.bytes
     }
 
+    /// Keeps these bytes behind the others, as long as there was memory for all.
     pub fn keep(&mut self, bytes: &[u8])
         ensures { KeepsMore self.old bytes.now self.new }
     {

@@ -64,7 +64,7 @@ pub enum Command<'a> {
     },
 }
 
-// What the message asks for.
+/// What the message asks for.
 pub fn command_of<'a>(msg: &AgentMsg<'a>) -> Command<'a>
     ensures { IsCommandOf (message msg.now) result }
 {

@@ -7,7 +7,7 @@ ghost use Rattle.desk_laws.specs.Effects.{first_of_causes};
 use desk_laws::Cause;
 use gui_wire::{AgentMsg, Header};
 
-// The first field out of its range. A dump whose references don't fit its size comes last.
+/// The first field out of its range. A dump whose references don't fit its size comes last.
 pub fn range_fault(msg: &AgentMsg<'_>, header: Header) -> Option<Cause>
     ensures { result ≡ effects.range_fault header.window header.len (message msg.now) }
 {

@@ -12,7 +12,7 @@ use gui_wire::{AgentMsg, Refs};
 // The windows that a guest may have.
 const WINDOWS: u32 = 1024;
 
-// The first thing that is wrong with the message among its guest's windows.
+/// The first thing that is wrong with the message among its guest's windows.
 pub fn rows_fault<I: Ids>(msg: &AgentMsg<'_>, window: u32, pages: u32, ids: &I) -> Option<Cause>
     requires pages { pages ≤ 16384 }
     requires held { refs_besides window (I.rows ids.now) ≤ pages }
