@@ -15,14 +15,14 @@ use Rattle.desk_laws.specs.Stream.{StreamUnit, Word, Stop, Whole}
 use Rattle.desk_laws.specs.Override.{effective, taken_besides}
 use Rattle.desk_laws.specs.Tiles.{tiles_in_use, tiles_needed}
 use Rattle.desk_laws.specs.Effects.{Area, clipped, placed_by, mapped_row, unmapped_row, text_of, Same, Added, Replaced, Verdict, Ends, Greets, Goes, Reads, unless, first_of_causes, exists_already, too_many, bad_ref, over_budget, refs_besides, range_fault, created, id_if, isnt_zero, flagged, goes_full, flags_after, configured_row, reads, tells_place, whole_desktop, acks, message_to_window, message_to, in_range_verdict, message_verdict, verdict, greeting}
-use Rattle.desk_laws.specs.Following.{ChangesOne, MessagesChangeOne}
+use Rattle.desk_laws.specs.Following.{ChangesOne, MessagesChangeOne, MessagesReadOne}
 
--- what is known of a verdict: where it changes rows, it changes that of one window
+-- what is known of a verdict: where it changes rows or reads pixels, they are those of one window
 abbrev pub IsOfOne : ℕ → List Row → Verdict → Type 0
 IsOfOne window own (Ends cause) = Unit {0}
 IsOfOne window own (Greets minor answers) = Unit {0}
 IsOfOne window own (Goes change answers) = ChangesOne window own change
-IsOfOne window own (Reads row area) = Unit {0}
+IsOfOne window own (Reads row area) = row_with window own ≡ Some row
 
 -- the row that is found is the window's
 pub found-window : (window : ℕ) (rows : List Row) (row : Row) → row_with window rows ≡ Some row → row.window ≡ window
@@ -86,7 +86,7 @@ module _ (window : ℕ) (own : List Row) where
             then Ends (PixelBudget (tiles_needed row area.x area.y area.w area.h) (sizes.tiles - tiles_in_use own))
             else Reads row area)
         by_tiles true = tt
-        by_tiles false = tt
+        by_tiles false = is
 
     of_message : (sizes : Sizes) (minor len : ℕ) (m : AgentMessage) → IsOfOne window own (message_to_window sizes minor own len m row)
     of_message sizes minor len (agent.Create x y width height parent override_redirect) = nothing
@@ -164,4 +164,8 @@ of_unit sizes guest minor own (Whole header body) = of_verdict sizes guest minor
 
 pub messages-change_one : MessagesChangeOne
 messages-change_one sizes guest minor own header body change answers is =
+    subst (IsOfOne header.window own) is (of_verdict sizes guest minor own header (reading header.kind body))
+
+pub messages-read_one : MessagesReadOne
+messages-read_one sizes guest minor own header body row area is =
     subst (IsOfOne header.window own) is (of_verdict sizes guest minor own header (reading header.kind body))

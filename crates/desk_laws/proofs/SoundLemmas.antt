@@ -14,10 +14,10 @@ use Rattle.desk_laws.specs.Stream.{StreamUnit, Cut, cut}
 use Rattle.desk_laws.specs.Rows.{Row, id_of, mine}
 use Rattle.desk_laws.specs.Layers.{are_apart}
 use Rattle.desk_laws.specs.Scene.{Scene, Input, Took, Closing, Losing}
-use Rattle.desk_laws.specs.Frames.{Loads, load_all}
+use Rattle.desk_laws.specs.Frames.{Loads, load_all, store}
 use Rattle.desk_laws.specs.Effects.{Verdict, Ends, Greets, Goes, Reads, verdict, carried_out, changed, Cleared, Replaced, drawn_row, frame_places, points}
 use Rattle.desk_laws.specs.State.{DeskState, StepOutcome, session_of, opening, count_item}
-use Rattle.desk_laws.specs.Steps.{step, run, take_unit, take_units, take_bytes, end_session, unit_done, unit_of_open, ends, with_rest, rest_of_open, bytes_of_open, end_of_open}
+use Rattle.desk_laws.specs.Steps.{step, run, take_unit, take_units, take_bytes, end_session, unit_done, unit_of_open, ends, with_rest, rest_of_open, bytes_of_open, end_of_open, take_store, store_of_open}
 use Rattle.desk_laws.specs.Following.{LayersFollow}
 use Rattle.desk_laws.specs.Endings.{IsGone}
 use Rattle.desk_laws.specs.Sound.{IsSound, OpeningIsSound, StepsKeepSound, RunsAreSound}
@@ -25,7 +25,7 @@ use Rattle.desk_laws.proofs.ChangeLemmas.{IsOfOne, window_of_unit, of_unit}
 use Rattle.desk_laws.proofs.FollowLemmas.{lists-follow}
 use Rattle.desk_laws.proofs.FollowChanges.{lists-follow_one, lists-follow_end, none-follow, replaced-ids}
 use Rattle.desk_laws.proofs.OtherLemmas.{others-keep_rows}
-use Rattle.desk_laws.proofs.EndLemmas.{length-unit, length-rest, bytes-other, end-other, ends-leave_nothing}
+use Rattle.desk_laws.proofs.EndLemmas.{length-unit, length-rest, bytes-other, end-other, ends-leave_nothing, store-ended}
 
 -- ---- the rows and lists of a scene
 
@@ -199,6 +199,30 @@ counted-sound state is = record { apart = is.apart; lists = is.lists; gone = is.
 pub opening-is_sound : OpeningIsSound
 opening-is_sound setup = record { apart = refl; lists = none-follow; gone = λ guest cause known over. refl }
 
+stored-scene : (guest delay page offset : ℕ) (bytes : List ℕ) (e : Option Cause) (desk : DeskState) → (store_of_open guest delay page offset bytes e desk).desk.scene ≡ desk.scene
+stored-scene guest delay page offset bytes None desk = refl
+stored-scene guest delay page offset bytes (Some cause) desk = refl
+
+stored-sessions : (guest delay page offset : ℕ) (bytes : List ℕ) (e : Option Cause) (desk : DeskState)
+    → length (store_of_open guest delay page offset bytes e desk).desk.sessions ≡ length desk.sessions
+stored-sessions guest delay page offset bytes None desk =
+    length-set desk.sessions guest (record (session_of guest desk) { port = store (session_of guest desk).port delay page offset bytes })
+stored-sessions guest delay page offset bytes (Some cause) desk = refl
+
+-- a change of frames changes no row and no list, and ends no session
+stored-sound : (guest delay page offset : ℕ) (bytes : List ℕ) (desk : DeskState) → IsSound desk → IsSound (take_store guest delay page offset bytes desk).desk
+stored-sound guest delay page offset bytes desk is =
+    let scene = stored-scene guest delay page offset bytes (session_of guest desk).ended desk in
+    let sessions = stored-sessions guest delay page offset bytes (session_of guest desk).ended desk in
+    record {
+      apart = subst (λ (s : Scene). are_apart (map id_of s.rows) ≡ true) (sym scene) is.apart;
+      lists = subst (λ (s : Scene). LayersFollow s.rows s.layers) (sym scene) is.lists;
+      gone = λ other cause known over.
+          let within : other < length desk.sessions = subst (λ (n : ℕ). other < n) sessions known in
+          subst (λ (s : Scene). mine other s.rows ≡ []) (sym scene)
+          (is.gone other cause within (sym (store-ended guest delay page offset bytes other desk within) ∙ over));
+    }
+
 pub steps-keep_sound : StepsKeepSound
 steps-keep_sound setup (item.Bytes g) piece state taken is =
     item-sound g (count_item state) (take_bytes setup g piece (count_item state)).desk (counted-sound state is)
@@ -230,6 +254,7 @@ steps-keep_sound setup (item.Lost g) piece state taken is =
       gone = λ cause known e over. ends-leave_nothing setup (item.Lost g) piece g cause state known e over;
     })
     (end-listed setup g Losing (LinkFailed 0 0) (count_item state) (record { apart = is.apart; lists = is.lists }))
+steps-keep_sound setup (item.Store g delay page offset) piece state taken is = stored-sound g delay page offset piece (count_item state) (counted-sound state is)
 steps-keep_sound setup item.Snap piece state taken is = counted-sound state is
 steps-keep_sound setup item.End piece state taken is = counted-sound state is
 steps-keep_sound setup item.Idle piece state taken is = is

@@ -6,7 +6,7 @@ use Rattle.desk_laws.specs.Sizes.{Sizes}
 use Rattle.desk_laws.specs.Stream.{Whole}
 use Rattle.desk_laws.specs.Rows.{Row, id_of, mine, row_with, row_at}
 use Rattle.desk_laws.specs.Layers.{Layers, are_apart, HaveSame, HaveRowsOnce, layer_of, followed, is_in, entered, departed, relayered}
-use Rattle.desk_laws.specs.Effects.{Change, Same, Added, Replaced, Removed, Cleared, changed, Goes, verdict}
+use Rattle.desk_laws.specs.Effects.{Change, Same, Added, Replaced, Removed, Cleared, changed, Area, Goes, Reads, verdict}
 
 -- ---- a change of one window
 
@@ -36,6 +36,12 @@ abbrev pub MessagesChangeOne : Type 0
 MessagesChangeOne =
     (sizes : Sizes) (guest minor : ℕ) (own : List Row) (header : Header) (body : List ℕ) (change : Change) (answers : List (List ℕ)) →
     verdict sizes guest minor own (Whole header body) ≡ Goes change answers → ChangesOne header.window own change
+
+-- what a message reads pixels of is the row of its own window
+abbrev pub MessagesReadOne : Type 0
+MessagesReadOne =
+    (sizes : Sizes) (guest minor : ℕ) (own : List Row) (header : Header) (body : List ℕ) (row : Row) (area : Area) →
+    verdict sizes guest minor own (Whole header body) ≡ Reads row area → row_with header.window own ≡ Some row
 
 -- a change of one guest's rows leaves those of the others
 abbrev pub OthersKeepRows : Type 0

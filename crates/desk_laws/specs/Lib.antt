@@ -27,3 +27,4 @@ pub mod Endings
 pub mod Sound
 pub mod WorkedRows
 pub mod WorkedStreams
+pub mod WorkedFrames

@@ -3,7 +3,7 @@ ghost use Rattle.desk_laws.specs.Cutting.{CutsInPieces};
 ghost use Rattle.desk_laws.specs.Pieces.{PiecesJoin};
 ghost use Rattle.desk_laws.specs.Endings.{EndsLeaveNothing, EndedDoesNothing};
 ghost use Rattle.desk_laws.specs.Sound.{OpeningIsSound, StepsKeepSound, RunsAreSound};
-ghost use Rattle.desk_laws.specs.Following.{MessagesChangeOne, OthersKeepRows, ListsFollowOne, ListsFollowEnd};
+ghost use Rattle.desk_laws.specs.Following.{MessagesChangeOne, MessagesReadOne, OthersKeepRows, ListsFollowOne, ListsFollowEnd};
 
 /// Does nothing. Its contract says that a guest's bytes may come in any pieces: where no fault stands
 /// among the units of some bytes, the units of these and more bytes are those units, and then the
@@ -20,12 +20,13 @@ pub fn law_of_pieces()
 {}
 
 /// Does nothing. Its contract says that a message changes the row of its own window (where the row
-/// goes, others of its guest that named it name 0), and no row of another guest; that the lists of
-/// the layers, where they had each mapped row once, follow such a change by one step (the row goes,
+/// goes, others of its guest that named it name 0), and no row of another guest; that the pixels which
+/// it reads are those of its own window; that the lists of the layers, where they had each mapped row once, follow such a change by one step (the row goes,
 /// comes on top of its layer and to the front of the focus list, or changes into the other layer);
 /// and that they lose a guest's rows, and no others, at its session's end.
 pub fn law_of_changes()
     ensures one_window { MessagesChangeOne }
+    ensures own_pixels { MessagesReadOne }
     ensures others { OthersKeepRows }
     ensures one_row { ListsFollowOne }
     ensures an_end { ListsFollowEnd }

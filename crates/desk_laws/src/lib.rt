@@ -26,4 +26,4 @@ pub use law::{
 };
 pub use row_id::RowId;
 pub use setup::{GuestSetup, Guests, Name, Setup};
-pub use worked::{worked_rows, worked_streams};
+pub use worked::{worked_frames, worked_rows, worked_streams};

@@ -1,6 +1,7 @@
 // Small runs that the definitions have to give.
 ghost use Rattle.desk_laws.specs.WorkedRows.{EmptyDesktop, OneWindow, WindowOffTheCorner, WindowCreatedTwice};
 ghost use Rattle.desk_laws.specs.WorkedStreams.{OneByteAtATime, WidthOutOfRange, WidthBroughtIntoRange, ReferencePastThePages, DumpAcknowledged, DumpOfAnOldAgent, DumpOfSixteenBits, WrongVersion, EarlyEnd, ClipboardTooLong, WindowLimit};
+ghost use Rattle.desk_laws.specs.WorkedFrames.{FrameChangesBetweenLoads, LoadedOnce, ContentsShown, ReportOutsideTheDump, NothingLoadedOutside, ReportOutOfRange, CutAndGrown, TooFewTiles};
 
 /// The definitions give the small runs that were worked by hand. It does nothing.
 pub fn worked_rows()
@@ -23,4 +24,16 @@ pub fn worked_streams()
     ensures early_end { EarlyEnd }
     ensures clipboard_too_long { ClipboardTooLong }
     ensures window_limit { WindowLimit }
+{}
+
+/// The definitions give the small runs with frames that were worked by hand. It does nothing.
+pub fn worked_frames()
+    ensures frame_changes_between_loads { FrameChangesBetweenLoads }
+    ensures loaded_once { LoadedOnce }
+    ensures contents_shown { ContentsShown }
+    ensures report_outside_the_dump { ReportOutsideTheDump }
+    ensures nothing_loaded_outside { NothingLoadedOutside }
+    ensures report_out_of_range { ReportOutOfRange }
+    ensures cut_and_grown { CutAndGrown }
+    ensures too_few_tiles { TooFewTiles }
 {}
