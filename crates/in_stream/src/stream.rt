@@ -19,8 +19,6 @@ const WORD_LEN: usize = 4;
 
 const HEADER_LEN: usize = 12;
 
-const SHMIMAGE: u32 = 136;
-
 const CLIPBOARD_DATA: u32 = 140;
 
 const WINDOW_FLAGS: u32 = 145;
@@ -176,7 +174,7 @@ impl InStream {
 fn takes_type(kind: u32) -> bool
     ensures { result ≡ takes_type kind }
 {
-    kind != SHMIMAGE && kind != WINDOW_FLAGS
+    kind != WINDOW_FLAGS
 }
 
 // Why a header is refused: its type isn't taken, or its length doesn't fit it.
