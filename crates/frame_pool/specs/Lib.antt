@@ -1,0 +1,4 @@
+pub mod Cells
+pub mod Ports
+pub mod Regions
+pub mod Tapes
