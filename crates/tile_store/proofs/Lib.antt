@@ -1,0 +1,12 @@
+pub mod SquareLemmas
+pub mod OrderLemmas
+pub mod HeldLemmas
+pub mod SweepLemmas
+pub mod RiseLemmas
+pub mod OpenLemmas
+pub mod ContentLemmas
+pub mod CutLemmas
+pub mod CountLemmas
+pub mod WholeLemmas
+pub mod UsedLemmas
+pub mod InUseLemmas

@@ -1,0 +1,65 @@
+-- What words stand for, as they are written and cut.
+use Rattle.std.proofs.Common.{◌≡◌, ℕ, zero, suc, ◌<◌, Bool, true, false, cond, ◌||◌, ltb, List, [], ◌∷◌, ◌++◌, length, take, drop, set, get_or, replicate, Some, None, is_some, refl, ap, ◌∙◌, arith}
+use Rattle.std.specs.List.{list_any}
+use Rattle.std.proofs.lemmas.Bool.{lt-ltb}
+use Rattle.tile_store.specs.Squares.{shown, all_shown, blanks, has_pixel, is_inside, cut_from, cut_word, cut_words, is_colour}
+
+pub shown-nothing : (n : ℕ) → all_shown (replicate n 4278190080) ≡ blanks n
+unfolding blanks
+shown-nothing zero = refl
+shown-nothing (suc n) = ap (λ rest. None ∷ rest) (shown-nothing n)
+
+-- words that all stand for nothing
+pub shown-blank : (words : List ℕ) (n : ℕ) → words ≡ replicate n 4278190080 → n ≡ 4096 → all_shown words ≡ blanks 4096
+shown-blank words n e size = ap all_shown e ∙ shown-nothing n ∙ ap blanks size
+
+pub shown-colour : (colour : ℕ) → colour < 16777216 → shown colour ≡ Some colour
+shown-colour colour few = ap (λ b. cond b (Some colour) None) (lt-ltb colour 16777216 few)
+
+pub shown-set : (words : List ℕ) (k colour : ℕ) → colour < 16777216 → all_shown (set words k colour) ≡ set (all_shown words) k (Some colour)
+shown-set [] k colour few = refl
+shown-set (word ∷ words) zero colour few = ap (λ o. o ∷ all_shown words) (shown-colour colour few)
+shown-set (word ∷ words) (suc k) colour few = ap (λ rest. shown word ∷ rest) (shown-set words k colour few)
+
+pub read-set : (words : List ℕ) (k colour : ℕ) → colour < 16777216 → k < length words → get_or (all_shown (set words k colour)) k None ≡ Some colour
+read-set [] k colour few inside = absurd (omega arith)
+read-set (word ∷ words) zero colour few inside = shown-colour colour few
+read-set (word ∷ words) (suc k) colour few inside = read-set words k colour few (omega arith)
+
+pub shown-get : (words : List ℕ) (k : ℕ) → k < length words → get_or (all_shown words) k None ≡ shown (get_or words k 0)
+shown-get [] k inside = absurd (omega arith)
+shown-get (word ∷ words) zero inside = refl
+shown-get (word ∷ words) (suc k) inside = shown-get words k (omega arith)
+
+pub colour-shown : (word : ℕ) → is_colour word ≡ is_some (shown word)
+colour-shown word = by (ltb word 16777216)
+  where
+    by : (b : Bool) → b ≡ is_some (cond b (Some word) None)
+    by true = refl
+    by false = refl
+
+pub some-shown : (words : List ℕ) → list_any is_colour words ≡ has_pixel (all_shown words)
+some-shown [] = refl
+some-shown (word ∷ words) =
+    ap (λ b. b || list_any is_colour words) (colour-shown word) ∙ ap (λ b. is_some (shown word) || b) (some-shown words)
+
+pub shown-cut : (k w h : ℕ) (words : List ℕ) → all_shown (cut_words k w h words) ≡ cut_from k w h (all_shown words)
+shown-cut k w h [] = refl
+shown-cut k w h (word ∷ words) =
+    ap (λ o. o ∷ all_shown (cut_words (suc k) w h words)) (by (is_inside w h k))
+    ∙ ap (λ rest. cond (is_inside w h k) (shown word) None ∷ rest) (shown-cut (suc k) w h words)
+  where
+    by : (b : Bool) → shown (cond b word 4278190080) ≡ cond b (shown word) None
+    by true = refl
+    by false = refl
+
+-- one more word is cut
+pub cut-step : (words : List ℕ) (i k w h v : ℕ) → i < length words → v ≡ cut_word k w h (get_or words i 0) →
+    take (suc i) (set words i v) ++ cut_words (suc k) w h (drop (suc i) (set words i v)) ≡ take i words ++ cut_words k w h (drop i words)
+cut-step [] i k w h v inside e = absurd (omega arith)
+cut-step (word ∷ words) zero k w h v inside e = ap (λ n. n ∷ cut_words (suc k) w h words) e
+cut-step (word ∷ words) (suc i) k w h v inside e = ap (λ rest. word ∷ rest) (cut-step words i k w h v (omega arith) e)
+
+pub length-cut : (k w h : ℕ) (words : List ℕ) → length (cut_words k w h words) ≡ length words
+length-cut k w h [] = refl
+length-cut k w h (word ∷ words) = ap suc (length-cut (suc k) w h words)

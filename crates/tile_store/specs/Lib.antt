@@ -1,0 +1,6 @@
+pub mod Spots
+pub mod Squares
+pub mod Held
+pub mod Places
+pub mod Kept
+pub mod Contents

@@ -1,0 +1,45 @@
+-- The pixels of a tile, row by row: a colour where something was read.
+use Rattle.std.specs.Prelude.{ℕ, suc, ◌/◌, ◌%◌, Bool, ◌&&◌, nat_lt, List, [], ◌∷◌, map, replicate, Option, Some, None, is_some, if◌then◌else◌}
+use Rattle.std.specs.List.{list_any}
+
+-- what a word of a tile stands for: a colour, or nothing where it is above ffffff
+abbrev pub shown : ℕ → Option ℕ
+shown word = if nat_lt word 16777216 then Some word else None
+
+-- the pixels that words stand for
+abbrev pub all_shown : List ℕ → List (Option ℕ)
+all_shown words = map shown words
+
+-- so many pixels of which nothing was read
+unfoldable pub blanks : ℕ → List (Option ℕ)
+blanks n = replicate n None
+
+-- the pixels of a tile of which nothing was read
+abbrev pub blank : List (Option ℕ)
+blank = blanks 4096
+
+-- whether some pixel has a colour
+abbrev pub has_pixel : List (Option ℕ) → Bool
+has_pixel pixels = list_any is_some pixels
+
+-- whether a tile's pixel lies in its first w columns and h rows
+abbrev pub is_inside : ℕ → ℕ → ℕ → Bool
+is_inside w h k = nat_lt (k % 64) w && nat_lt (k / 64) h
+
+-- a tile's pixels from the one with number k on: those outside the first w columns and h rows are forgotten
+abbrev pub cut_from : ℕ → ℕ → ℕ → List (Option ℕ) → List (Option ℕ)
+cut_from k w h [] = []
+cut_from k w h (pixel ∷ pixels) = (if is_inside w h k then pixel else None) ∷ cut_from (suc k) w h pixels
+
+-- what a cut leaves of the word with number k: it stands for nothing where it lies outside
+abbrev pub cut_word : ℕ → ℕ → ℕ → ℕ → ℕ
+cut_word k w h word = if is_inside w h k then word else 4278190080
+
+-- the words from the one with number k on: those outside the first w columns and h rows stand for nothing
+abbrev pub cut_words : ℕ → ℕ → ℕ → List ℕ → List ℕ
+cut_words k w h [] = []
+cut_words k w h (word ∷ words) = cut_word k w h word ∷ cut_words (suc k) w h words
+
+-- whether a word is a colour
+abbrev pub is_colour : ℕ → Bool
+is_colour word = nat_lt word 16777216

@@ -1,0 +1,12 @@
+//! What was read of windows, kept in tiles of 64 by 64 pixels, in memory that is taken once.
+#![tactic(auto)]
+
+mod shelf;
+mod spot;
+mod square;
+mod tiles;
+
+pub use tiles::Tiles;
+
+#[cfg(test)]
+mod tests;

@@ -1,0 +1,141 @@
+// The pixels of one tile.
+ghost use Rattle.std.specs.Prelude.{◌≡◌, ℕ, ◌+◌, ◌-◌, ◌<◌, ◌≤◌, ◌^◌, length, take, drop, Some, None, IfOk, slice_index, slice_index_or, slice_set, vec_len, IsSome};
+ghost use Rattle.tile_store.specs.Squares.{blank, has_pixel, cut_from, cut_words, cut_word, is_colour, shown};
+ghost use Rattle.tile_store.specs.Contents.{colour_or};
+ghost use Rattle.std.specs.List.{list_any};
+
+use gui_num::NoMemory;
+use std::alloc::Global;
+use std::marker::Model;
+
+// How many pixels a tile has.
+const PIXELS: usize = 4096;
+
+// Stands where nothing was read.
+const NOTHING: u32 = 0xff00_0000;
+
+// The pixels of a tile of 64 by 64, row by row: a colour each, or nothing.
+#[derive(Drop)]
+pub struct Square {
+    words: Vec<u32>,
+}
+
+impl Model for Square {
+    ghost use Rattle.std.specs.Prelude.{ℕ, ◌≡◌, List, Option, length};
+    ghost use Rattle.tile_store.specs.Squares.{all_shown};
+
+    ghost Value = { List (Option ℕ) };
+
+    ghost view = { λ s. all_shown s.words.items };
+
+    ghost invariant = { λ s. length s.words.items ≡ 4096 };
+}
+
+impl Square {
+    // A tile of which nothing was read.
+    pub(crate) fn new(alloc: Global) -> Result<Square, NoMemory>
+        ensures { IfOk result (λ square. square ≡ blank) }
+    {
+        let words = vec![in alloc; NOTHING; PIXELS]?;
+        Ok(Square { words })
+    }
+
+    // Forgets all pixels.
+    pub(crate) fn clear(&mut self)
+        ensures { self.new ≡ blank }
+    {
+        self.words.fill(NOTHING);
+    }
+
+    // The colour of a pixel, if something was read there.
+    pub(crate) fn get(&self, k: usize) -> Option<u32>
+        requires { k < 4096 }
+        ensures { result ≡ slice_index_or self.now k None }
+    {
+        let word = self.words[k];
+        if word < 0x100_0000 { Some(word) } else { None }
+    }
+
+    // Writes the colours of n pixels from the one with number k on behind the first `at` places of
+    // `out`, `blank` where nothing was read.
+    pub(crate) fn copy_to(&self, k: usize, n: usize, blank: u32, out: &mut [u32], at: usize)
+        requires pixels { k + n ≤ 4096 }
+        requires room { at + n ≤ length out.old }
+        ensures copied { (i : ℕ) → at ≤ i → i < at + n → slice_index out.new i ≡ colour_or blank (slice_index_or self.now (k + (i - at)) None) }
+        ensures kept { (i : ℕ) → i < at → slice_index out.new i ≡ slice_index out.old i }
+    {
+        copy_colours(&self.words, k, n, blank, out, at);
+    }
+
+    // Gives a pixel a colour.
+    pub(crate) fn set(&mut self, k: usize, colour: u32)
+        requires k { k < 4096 }
+        requires colour { colour < 2 ^ 24 }
+        ensures pixels { self.new ≡ slice_set self.old k (Some colour) }
+        ensures read { slice_index_or self.new k None ≡ Some colour }
+    {
+        self.words[k] = colour;
+    }
+
+    // Forgets the pixels outside its first w columns and h rows.
+    pub(crate) fn cut(&mut self, w: u32, h: u32)
+        ensures { self.new ≡ cut_from 0 w h self.old }
+    {
+        cut_all(&mut self.words, w, h);
+    }
+
+    // Whether some pixel has a colour.
+    pub(crate) fn has_pixel(&self) -> bool
+        ensures { result ≡ has_pixel self.now }
+    {
+        some_colour(&self.words)
+    }
+}
+
+// Forgets the words outside the first w columns and h rows.
+fn cut_all(words: &mut Vec<u32>, w: u32, h: u32)
+    requires { length words.old.items ≡ 4096 }
+    ensures { words.new.items ≡ cut_words 0 w h words.old.items }
+{
+    for k in 0..4096u32 {
+        words[k as usize] = cut_word(words[k as usize], k, w, h);
+    }
+}
+
+// What the word with number k is cut to.
+fn cut_word(word: u32, k: u32, w: u32, h: u32) -> u32
+    ensures { result ≡ cut_word k w h word }
+{
+    if k % 64 < w && k / 64 < h {
+        word
+    } else {
+        NOTHING
+    }
+}
+
+// Whether some word is a colour.
+fn some_colour(words: &[u32]) -> bool
+    ensures { result ≡ list_any is_colour words.now }
+{
+    words.iter().any(|word| *word < 0x100_0000)
+}
+
+// Writes n words from the one with number k on behind the first `at` places of `out`, `blank` in the
+// place of those that are no colours.
+fn copy_colours(words: &[u32], k: usize, n: usize, blank: u32, out: &mut [u32], at: usize)
+    requires words { k + n ≤ length words.now }
+    requires room { at + n ≤ length out.old }
+    ensures copied { (i : ℕ) → at ≤ i → i < at + n → slice_index out.new i ≡ colour_or blank (shown (slice_index words.now (k + (i - at)))) }
+    ensures kept { (i : ℕ) → i < at → slice_index out.new i ≡ slice_index out.old i }
+{
+    for j in 0..n {
+        out[at + j] = colour_of(words[k + j], blank);
+    }
+}
+
+// The colour that a word is, or another where it is none.
+fn colour_of(word: u32, blank: u32) -> u32
+    ensures { result ≡ colour_or blank (shown word) }
+{
+    if word < 0x100_0000 { word } else { blank }
+}
