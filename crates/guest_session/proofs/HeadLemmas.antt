@@ -63,7 +63,7 @@ reads-taken body =
     (λ t u m. same_some _ m refl)
     (λ t u m. same_some _ m refl)
     (λ t u m. same_some _ m refl)
-    (λ t u m e. absurd cc)
+    (λ t u m. same_some _ m refl)
     (λ t u m. same_some _ m refl)
     (λ t u m. same_some _ m refl)
     (λ t u m. same_some _ m refl)

@@ -1,5 +1,12 @@
+pub mod GridLemmas
 pub mod TableLemmas
 pub mod RowChanges
+pub mod KeptLemmas
+pub mod EditLemmas
+pub mod DrawLemmas
+pub mod UseLemmas
+pub mod ReadLemmas
+pub mod AreaLemmas
 pub mod TextLemmas
 pub mod ReplyLemmas
 pub mod HeadLemmas

@@ -1,5 +1,5 @@
 -- The entries of a table: which one a window has, and the rows that they are.
-use Rattle.std.proofs.Common.{◌≡◌, ℕ, ◌+◌, ◌*◌, ◌≤◌, Bool, true, false, cond, ◌&&◌, ◌||◌, not, List, [], ◌∷◌, length, map, replicate, Option, Some, None, is_some, refl, sym, ap, ◌∙◌, subst, arith, eqb-true}
+use Rattle.std.proofs.Common.{◌≡◌, ℕ, ◌+◌, ◌≤◌, Bool, true, false, cond, ◌&&◌, ◌||◌, not, List, [], ◌∷◌, length, map, Option, Some, None, is_some, refl, sym, ap, ◌∙◌, subst, arith, eqb-true}
 use Rattle.std.specs.Prelude.{find, option_map, ◌==◌, if◌then◌else◌}
 use Rattle.std.specs.List.{All}
 use Rattle.std.proofs.lemmas.Bool.{and_parts, or_parts, not-true, eq-eqb}
@@ -12,6 +12,7 @@ use Rattle.desk_laws.specs.Rows.{Row, id_of, row_with}
 use Rattle.desk_laws.specs.Layers.{is_in, are_apart}
 use Rattle.desk_laws.specs.Effects.{refs_of, refs_besides}
 use Rattle.desk_laws.specs.Checks.{LooksSame}
+use Rattle.tile_store.specs.declared.shelf.Tile.{Tile}
 use Rattle.window_table.specs.Entries.{Entry, AreApart, entry_at, entry_with, row_of, plain_rows}
 use Rattle.guest_session.specs.SessionView.{AreRows, IsPlace}
 use Rattle.guest_session.specs.RowsView.{own_row, own_rows}
@@ -42,17 +43,17 @@ All-find P p (y ∷ ys) x all e = by (p y) refl (All-find P p ys x (All-tail P y
         subst P same (All-head P y ys all)
     by false t later = later (sym (ap (λ b. cond b (Some y) (find p ys)) t) ∙ e)
 
-pub row-found : (guest window : ℕ) (entries : List Entry) → row_with window (own_rows guest entries) ≡ option_map (own_row guest) (entry_with window entries)
-row-found guest window entries = find-map (λ row. row.window == window) (own_row guest) entries
+pub row-found : (guest window : ℕ) (held : List Tile) (entries : List Entry) → row_with window (own_rows guest held entries) ≡ option_map (own_row guest held) (entry_with window entries)
+row-found guest window held entries = find-map (λ row. row.window == window) (own_row guest held) entries
 
 pub plain-found : (window : ℕ) (entries : List Entry) → row_with window (plain_rows entries) ≡ option_map (row_of 0 []) (entry_with window entries)
 plain-found window entries = find-map (λ row. row.window == window) (row_of 0 []) entries
 
 -- whether a window is known, among the entries and among the rows
-pub known-is : (guest window : ℕ) (entries : List Entry) → is_some (row_with window (plain_rows entries)) ≡ is_some (row_with window (own_rows guest entries))
-known-is guest window entries =
+pub known-is : (guest window : ℕ) (held : List Tile) (entries : List Entry) → is_some (row_with window (plain_rows entries)) ≡ is_some (row_with window (own_rows guest held entries))
+known-is guest window held entries =
     ap is_some (plain-found window entries) ∙ is_some-mapped (row_of 0 []) (entry_with window entries)
-    ∙ sym (ap is_some (row-found guest window entries) ∙ is_some-mapped (own_row guest) (entry_with window entries))
+    ∙ sym (ap is_some (row-found guest window held entries) ∙ is_some-mapped (own_row guest held) (entry_with window entries))
 
 -- ---- an entry of a window is the only one, and the only one at its slot
 
@@ -72,13 +73,13 @@ key-differs key n (x ∷ xs) out =
     let parts = or_parts (n == key x) (is_in (map (λ e. keyed (key e)) xs) (keyed n)) out in
     All-cons (λ y. (key y == n) ≡ false) x xs (swapped (key x) n ∙ parts.0) (key-differs key n xs parts.1)
 
-apart-head : (key : Entry → ℕ) (x : Entry) (xs : List Entry) → are_apart (map (λ e. keyed (key e)) (x ∷ xs)) ≡ true
+pub apart-head : (key : Entry → ℕ) (x : Entry) (xs : List Entry) → are_apart (map (λ e. keyed (key e)) (x ∷ xs)) ≡ true
     → All (λ y. (key y == key x) ≡ false) xs
 apart-head key x xs apart =
     key-differs key (key x) xs
     (not-true _ (and_parts (not (is_in (map (λ e. keyed (key e)) xs) (keyed (key x)))) (are_apart (map (λ e. keyed (key e)) xs)) apart).0)
 
-apart-tail : (key : Entry → ℕ) (x : Entry) (xs : List Entry) → are_apart (map (λ e. keyed (key e)) (x ∷ xs)) ≡ true
+pub apart-tail : (key : Entry → ℕ) (x : Entry) (xs : List Entry) → are_apart (map (λ e. keyed (key e)) (x ∷ xs)) ≡ true
     → are_apart (map (λ e. keyed (key e)) xs) ≡ true
 apart-tail key x xs apart =
     (and_parts (not (is_in (map (λ e. keyed (key e)) xs) (keyed (key x)))) (are_apart (map (λ e. keyed (key e)) xs)) apart).1
@@ -182,49 +183,43 @@ no_slot (Some x) e = absurd cc
 
 -- ---- the rows of all entries
 
-is_in-own : (guest n : ℕ) (entries : List Entry) → is_in (map id_of (own_rows guest entries)) (record { guest = guest; window = n }) ≡ is_in (map (λ e. keyed e.window) entries) (keyed n)
-is_in-own guest n [] = refl
-is_in-own guest n (e ∷ entries) =
-    ap (λ b. (b && (n == e.window)) || is_in (map id_of (own_rows guest entries)) (record { guest = guest; window = n })) (eq-eqb guest guest refl)
-    ∙ ap (λ b. (n == e.window) || b) (is_in-own guest n entries)
+is_in-own : (guest n : ℕ) (held : List Tile) (entries : List Entry) → is_in (map id_of (own_rows guest held entries)) (record { guest = guest; window = n }) ≡ is_in (map (λ e. keyed e.window) entries) (keyed n)
+is_in-own guest n held [] = refl
+is_in-own guest n held (e ∷ entries) =
+    ap (λ b. (b && (n == e.window)) || is_in (map id_of (own_rows guest held entries)) (record { guest = guest; window = n })) (eq-eqb guest guest refl)
+    ∙ ap (λ b. (n == e.window) || b) (is_in-own guest n held entries)
 
-apart-own : (guest : ℕ) (entries : List Entry) → are_apart (map id_of (own_rows guest entries)) ≡ are_apart (map (λ e. keyed e.window) entries)
-apart-own guest [] = refl
-apart-own guest (e ∷ entries) =
-    ap (λ b. not b && are_apart (map id_of (own_rows guest entries))) (is_in-own guest e.window entries)
-    ∙ ap (λ b. not (is_in (map (λ x. keyed x.window) entries) (keyed e.window)) && b) (apart-own guest entries)
+apart-own : (guest : ℕ) (held : List Tile) (entries : List Entry) → are_apart (map id_of (own_rows guest held entries)) ≡ are_apart (map (λ e. keyed e.window) entries)
+apart-own guest held [] = refl
+apart-own guest held (e ∷ entries) =
+    ap (λ b. not b && are_apart (map id_of (own_rows guest held entries))) (is_in-own guest e.window held entries)
+    ∙ ap (λ b. not (is_in (map (λ x. keyed x.window) entries) (keyed e.window)) && b) (apart-own guest held entries)
 
-guest-own : (guest : ℕ) (entries : List Entry) → All (λ row. row.guest ≡ guest) (own_rows guest entries)
-guest-own guest [] = All-nil (λ (row : Row). row.guest ≡ guest)
-guest-own guest (e ∷ entries) = All-cons (λ (row : Row). row.guest ≡ guest) (own_row guest e) (own_rows guest entries) refl (guest-own guest entries)
-
-blank-own : (guest : ℕ) (entries : List Entry) → All (λ row. row.contents ≡ replicate (row.place.w * row.place.h) None) (own_rows guest entries)
-blank-own guest [] = All-nil (λ (row : Row). row.contents ≡ replicate (row.place.w * row.place.h) None)
-blank-own guest (e ∷ entries) =
-    All-cons (λ (row : Row). row.contents ≡ replicate (row.place.w * row.place.h) None) (own_row guest e) (own_rows guest entries) refl (blank-own guest entries)
+guest-own : (guest : ℕ) (held : List Tile) (entries : List Entry) → All (λ row. row.guest ≡ guest) (own_rows guest held entries)
+guest-own guest held [] = All-nil (λ (row : Row). row.guest ≡ guest)
+guest-own guest held (e ∷ entries) = All-cons (λ (row : Row). row.guest ≡ guest) (own_row guest held e) (own_rows guest held entries) refl (guest-own guest held entries)
 
 -- the rows of a guest are as a session promises
-pub are_rows : (guest : ℕ) (entries : List Entry) → AreApart entries → length entries ≤ 1024 → All (λ e. IsPlace e.pane.place) entries
-    → AreRows guest (own_rows guest entries)
-are_rows guest entries apart few placed = record {
-  own = guest-own guest entries;
-  apart = apart-own guest entries ∙ apart.windows;
-  few = let e = length-map entries (own_row guest) in omega (arith, few);
-  placed = All-map (λ (row : Row). IsPlace row.place) (own_row guest) entries placed;
-  blank = blank-own guest entries;
+pub are_rows : (guest : ℕ) (held : List Tile) (entries : List Entry) → AreApart entries → length entries ≤ 1024 → All (λ e. IsPlace e.pane.place) entries
+    → AreRows guest (own_rows guest held entries)
+are_rows guest held entries apart few placed = record {
+  own = guest-own guest held entries;
+  apart = apart-own guest held entries ∙ apart.windows;
+  few = let e = length-map entries (own_row guest held) in omega (arith, few);
+  placed = All-map (λ (row : Row). IsPlace row.place) (own_row guest held) entries placed;
 }
 
-refs-same : (guest window : ℕ) (entries : List Entry) → refs_besides window (plain_rows entries) ≡ refs_besides window (own_rows guest entries)
-refs-same guest window [] = refl
-refs-same guest window (e ∷ entries) =
+refs-same : (guest window : ℕ) (held : List Tile) (entries : List Entry) → refs_besides window (plain_rows entries) ≡ refs_besides window (own_rows guest held entries)
+refs-same guest window held [] = refl
+refs-same guest window held (e ∷ entries) =
     sum_by-cons (λ (row : Row). if row.window == window then 0 else refs_of row.dump) (row_of 0 [] e) (plain_rows entries)
-    ∙ ap (λ n. (if e.window == window then 0 else refs_of e.dump) + n) (refs-same guest window entries)
-    ∙ sym (sum_by-cons (λ (row : Row). if row.window == window then 0 else refs_of row.dump) (own_row guest e) (own_rows guest entries))
+    ∙ ap (λ n. (if e.window == window then 0 else refs_of e.dump) + n) (refs-same guest window held entries)
+    ∙ sym (sum_by-cons (λ (row : Row). if row.window == window then 0 else refs_of row.dump) (own_row guest held e) (own_rows guest held entries))
 
 -- to a check the entries look like the rows
-pub looks_same : (guest : ℕ) (entries : List Entry) → LooksSame (plain_rows entries) (own_rows guest entries)
-looks_same guest entries = record {
-  known = λ window. known-is guest window entries;
-  count = length-map entries (row_of 0 []) ∙ sym (length-map entries (own_row guest));
-  refs = λ window. refs-same guest window entries;
+pub looks_same : (guest : ℕ) (held : List Tile) (entries : List Entry) → LooksSame (plain_rows entries) (own_rows guest held entries)
+looks_same guest held entries = record {
+  known = λ window. known-is guest window held entries;
+  count = length-map entries (row_of 0 []) ∙ sym (length-map entries (own_row guest held));
+  refs = λ window. refs-same guest window held entries;
 }

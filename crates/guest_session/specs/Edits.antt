@@ -1,8 +1,11 @@
 -- What a change of one window does to its pane and to its row.
-use Rattle.std.specs.Prelude.{◌≤◌, true, false, length, if◌then◌else◌}
+use Rattle.std.specs.Prelude.{ℕ, ◌≤◌, true, false, List, length, if◌then◌else◌}
 use Rattle.desk_laws.specs.Rows.{Row, placed_at}
 use Rattle.desk_laws.specs.Effects.{text_of, flags_without, minimize, unmapped_row}
 use Rattle.window_table.specs.declared.pane.Pane.{Pane}
+use Rattle.tile_store.specs.declared.shelf.Tile.{Tile}
+use Rattle.tile_store.specs.Held.{swept}
+use Rattle.tile_store.specs.Contents.{KeepsAll, CutsAway}
 use Rattle.guest_session.specs.declared.edit.Edit.{Edit}
 use Rattle.guest_session.specs.declared.edit.Edit.TheVariants.{Map, Unmap, Configure, Title, Dock, Hints, Class, Cursor}
 use Rattle.guest_session.specs.SessionView.{IsPlace}
@@ -20,6 +23,28 @@ pane_edited (Hints hints) pane = record pane { hints = hints }
 pane_edited (Class class name) pane =
     record pane { class = record { items = text_of class.now }; name = record { items = text_of name.now } }
 pane_edited (Cursor cursor) pane = record pane { cursor = cursor }
+
+-- the tiles after a change of the window at a slot: what lies outside its new size is forgotten
+abbrev pub tiles_edited : Edit → ℕ → List Tile → List Tile
+tiles_edited (Map asked transient) slot held = held
+tiles_edited Unmap slot held = held
+tiles_edited (Configure place asked) slot held = swept slot place.w place.h held
+tiles_edited (Title text) slot held = held
+tiles_edited Dock slot held = held
+tiles_edited (Hints hints) slot held = held
+tiles_edited (Class class name) slot held = held
+tiles_edited (Cursor cursor) slot held = held
+
+-- what a change of the window at a slot does to all pixels
+abbrev pub EditsPixels : Edit → ℕ → List Tile → List Tile → Type 0
+EditsPixels (Map asked transient) slot old new = KeepsAll old new
+EditsPixels Unmap slot old new = KeepsAll old new
+EditsPixels (Configure place asked) slot old new = CutsAway slot place.w place.h old new
+EditsPixels (Title text) slot old new = KeepsAll old new
+EditsPixels Dock slot old new = KeepsAll old new
+EditsPixels (Hints hints) slot old new = KeepsAll old new
+EditsPixels (Class class name) slot old new = KeepsAll old new
+EditsPixels (Cursor cursor) slot old new = KeepsAll old new
 
 -- the row after a change, while no window is placed by itself
 abbrev pub row_edited : Edit → Row → Row

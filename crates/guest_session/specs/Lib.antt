@@ -7,3 +7,6 @@ pub mod RowsView
 pub mod Edits
 pub mod Obeyed
 pub mod Parts
+pub mod Reading
+pub mod Drawing
+pub mod Areas

@@ -23,11 +23,12 @@ joined sizes stream rows minor ended = record {
   ended = ended;
 }
 
--- the numbers fit a desktop, and the rows are held to the same number of pages
+-- the numbers fit a desktop, and the rows are held to the same numbers of pages and tiles
 pub record AreJoined (numbers : Numbers) (rows : RowsView) : Type 0 where
   pub wide : numbers.width ≤ 8192
   pub high : numbers.height ≤ 8192
   pub pages : numbers.pages ≡ rows.pages
+  pub tiles : numbers.tiles ≡ rows.tiles
 
 -- why a session ended in this turn, if it did
 abbrev pub ended_by : Turn → Option Cause

@@ -1,33 +1,72 @@
--- The rows of one guest, and the entries of a table that they are.
-use Rattle.std.specs.Prelude.{ℕ, ◌≤◌, ◌*◌, List, map, replicate, Some, None}
-use Rattle.std.specs.List.{All}
-use Rattle.desk_laws.specs.Rows.{Row}
-use Rattle.desk_laws.specs.Effects.{Change, Replaced, changed}
-use Rattle.window_table.specs.Entries.{Entry, TableView, row_of}
+-- The rows of one guest: the entries of a table with what was read into tiles.
+use Rattle.std.specs.Prelude.{ℕ, ◌≡◌, ◌≤◌, ◌<◌, Bool, true, false, ◌&&◌, nat_lt, List, map, length, Option, Some, None, is_some}
+use Rattle.std.specs.List.{All, list_all}
+use Rattle.desk_laws.specs.Rows.{Row, DumpOf, grid}
+use Rattle.desk_laws.specs.Effects.{Change, Replaced, changed, pages_for}
+use Rattle.window_table.specs.Entries.{Entry, TableView, entry_at, row_of}
+use Rattle.tile_store.specs.declared.shelf.Tile.{Tile}
+use Rattle.tile_store.specs.Squares.{has_pixel}
+use Rattle.tile_store.specs.Held.{TilesView, colour_at}
 use Rattle.guest_session.specs.SessionView.{IsPlace}
 
--- a guest's number, how many pages its frames have, and its rows in the order of their CREATE
+-- a guest's number, how many pages its frames have, how many tiles its windows may take, and its rows
+-- in the order of their CREATE
 pub record RowsView : Type 0 where
   pub guest : ℕ
   pub pages : ℕ
+  pub tiles : ℕ
   pub rows : List Row
 
--- an entry as a row of this guest: nothing was read of its pixels
-abbrev pub own_row : ℕ → Entry → Row
-own_row guest e = row_of guest (replicate (e.pane.place.w * e.pane.place.h) None) e
+-- what was read of a slot's pixels in the first w columns and h rows
+abbrev pub contents_in : ℕ → ℕ → ℕ → List Tile → List (Option ℕ)
+contents_in slot w h held = map (λ p. colour_at slot p.0 p.1 held) (grid 0 0 w h)
+
+-- an entry as a row of this guest, with what was read of its pixels
+abbrev pub own_row : ℕ → List Tile → Entry → Row
+own_row guest held e = row_of guest (contents_in e.slot e.pane.place.w e.pane.place.h held) e
 
 -- the entries as rows of this guest
-abbrev pub own_rows : ℕ → List Entry → List Row
-own_rows guest entries = map (own_row guest) entries
+abbrev pub own_rows : ℕ → List Tile → List Entry → List Row
+own_rows guest held entries = map (own_row guest held) entries
 
--- the rows of a table
-abbrev pub viewed : ℕ → ℕ → TableView → RowsView
-viewed guest pages table = record { guest = guest; pages = pages; rows = own_rows guest table.entries }
+-- the rows of a table and of what was read
+abbrev pub viewed : ℕ → TableView → TilesView → RowsView
+viewed guest table tiles = record {
+  guest = guest;
+  pages = table.pages;
+  tiles = tiles.number;
+  rows = own_rows guest tiles.held table.entries;
+}
 
--- the places are in range, and the number of pages is
-pub record AreKept (table : TableView) : Type 0 where
+-- the references of a dump of this size, in a guest with so many pages
+pub record FitsDump (pages width height : ℕ) (refs : List ℕ) : Type 0 where
+  pub wide : width ≤ 16384
+  pub high : height ≤ 6144
+  pub count : length refs ≡ pages_for width height
+  pub below : All (λ ref. ref < pages) refs
+
+-- a dump, if there is one, fits so many pages
+abbrev pub HasFitDump : ℕ → Option DumpOf → Type 0
+HasFitDump pages None = Unit {0}
+HasFitDump pages (Some dump) = FitsDump pages dump.width dump.height dump.refs
+
+-- whether a tile is of a slot that an entry has
+abbrev pub is_owned : List Entry → Tile → Bool
+is_owned entries t = is_some (entry_at t.spot.slot entries)
+
+-- no pixel outside an entry's size has a colour
+abbrev pub StaysInside : List Tile → Entry → Type 0
+StaysInside held e = (x y : ℕ) → (nat_lt x e.pane.place.w && nat_lt y e.pane.place.h) ≡ false → colour_at e.slot x y held ≡ None
+
+-- the number of pages is in range, the places are, and the dumps fit; each tile that is held is of an
+-- entry's slot and has a pixel, and what was read lies inside its window
+pub record AreKept (table : TableView) (held : List Tile) : Type 0 where
   pub pages : table.pages ≤ 16384
   pub placed : All (λ e. IsPlace e.pane.place) table.entries
+  pub dumps : All (λ e. HasFitDump table.pages e.dump) table.entries
+  pub owned : list_all (is_owned table.entries) held ≡ true
+  pub inside : All (StaysInside held) table.entries
+  pub left : list_all (λ t. has_pixel t.square) held ≡ true
 
 -- the rows after a change of them
 abbrev pub with_change : Change → RowsView → RowsView

@@ -1,5 +1,5 @@
 -- What a guest's session is seen as.
-use Rattle.std.specs.Prelude.{◌≡◌, ℕ, ◌≤◌, true, List, [], length, map, replicate, ◌*◌, Option, Some, None, pos, negsuc, ◌≤ℤ◌}
+use Rattle.std.specs.Prelude.{◌≡◌, ℕ, ◌≤◌, true, List, [], length, map, Option, Some, None, pos, negsuc, ◌≤ℤ◌}
 use Rattle.std.specs.List.{All}
 use Rattle.gui_num.specs.declared.Rect.{Rect}
 use Rattle.desk_laws.specs.declared.cause.Cause.{Cause}
@@ -29,14 +29,12 @@ pub record IsPlace (place : Rect) : Type 0 where
   pub h_low : 1 ≤ place.h
   pub h_high : place.h ≤ 6144
 
--- at most 1024 rows of this guest, no two of one window, their places in range; nothing was read of
--- their pixels
+-- at most 1024 rows of this guest, no two of one window, their places in range
 pub record AreRows (guest : ℕ) (rows : List Row) : Type 0 where
   pub own : All (λ row. row.guest ≡ guest) rows
   pub apart : are_apart (map id_of rows) ≡ true
   pub few : length rows ≤ 1024
   pub placed : All (λ row. IsPlace row.place) rows
-  pub blank : All (λ row. row.contents ≡ replicate (row.place.w * row.place.h) None) rows
 
 -- the rows of a session
 abbrev pub HasRows : SessionView → Type 0

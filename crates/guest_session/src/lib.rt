@@ -5,9 +5,11 @@
 //! All memory is taken as a session is opened.
 #![tactic(auto)]
 
+mod draw;
 mod edit;
 mod numbers;
 mod obey;
+mod read;
 mod replies;
 mod rows;
 mod session;

@@ -1,17 +1,18 @@
 // What a checked message does.
-ghost use Rattle.std.specs.Prelude.{◌≡◌, ℕ, ◌≤◌, [], ◌∷◌, None, length};
+ghost use Rattle.std.specs.Prelude.{◌≡◌, ℕ, ◌<◌, [], ◌∷◌, None, length};
 ghost use Rattle.desk_laws.specs.Sizes.{Sizes};
 ghost use Rattle.desk_laws.specs.Stream.{Whole, head_fault};
 ghost use Rattle.desk_laws.specs.Effects.{tells_place, verdict};
 ghost use Rattle.guest_session.specs.declared.edit.Edit.TheVariants as edit;
 ghost use Rattle.guest_session.specs.SessionView.{IsPlace};
 ghost use Rattle.guest_session.specs.Edits.{row_edited};
-ghost use Rattle.guest_session.specs.Obeyed.{AnsweredFor, Carries, CanObey, Obeyed};
+ghost use Rattle.guest_session.specs.Obeyed.{AnsweredFor, Carries, CanObey, Changes, Obeyed};
 
 use crate::edit::Edit;
 use crate::replies::{acknowledge, tell_place};
 use crate::rows::Rows;
 use desk_laws::Cause;
+use frame_pool::FramePort;
 use gui_num::Rect;
 use gui_wire::{Header, body_of};
 use io_ports::Outlet;
@@ -27,10 +28,11 @@ fn configure<O: Outlet>(rows: &mut Rows, window: u32, place: Rect, asked: bool, 
     tell_place(rows.guest(), window, place, over, out);
 }
 
-// Does what a checked message for a window asks for, and answers the guest.
-fn obey<O: Outlet>(rows: &mut Rows, minor: u32, window: u32, command: &Command<'_>, out: &mut O)
+// Changes the windows as a checked message for one of them asks for, and answers the guest. Nothing is
+// read.
+fn change<O: Outlet>(rows: &mut Rows, minor: u32, window: u32, command: &Command<'_>, out: &mut O)
     requires { CanObey rows.old window command.now }
-    ensures { Obeyed O.takes out.old out.new rows.old rows.new minor window command.now }
+    ensures { Changes O.takes out.old out.new rows.old rows.new minor window command.now }
 {
     match *command {
         Command::Create {
@@ -73,18 +75,57 @@ fn obey<O: Outlet>(rows: &mut Rows, minor: u32, window: u32, command: &Command<'
     }
 }
 
+// Does what a checked message for a window asks for, and answers the guest. Answers the rectangle of
+// the window that was read, if one was, or why none is read.
+fn obey<P: FramePort, O: Outlet>(
+    rows: &mut Rows,
+    minor: u32,
+    window: u32,
+    command: &Command<'_>,
+    port: &mut P,
+    out: &mut O,
+) -> Result<Option<Rect>, Cause>
+    requires guest { rows.old.guest < P.guests port.old }
+    requires pages { P.pages port.old ≡ rows.old.pages }
+    requires can { CanObey rows.old window command.now }
+    ensures obeyed { Obeyed O.takes out.old out.new (P.state port.old rows.old.guest) (P.state port.new rows.old.guest) rows.old rows.new result minor window command.now }
+    ensures others { (other : ℕ) → (other ≡ rows.old.guest → ⊥) → P.state port.new other ≡ P.state port.old other }
+    ensures guests { P.guests port.new ≡ P.guests port.old }
+    ensures port_pages { P.pages port.new ≡ P.pages port.old }
+{
+    if let Command::Shmimage {
+        x,
+        y,
+        width,
+        height,
+    } = *command
+    {
+        return rows.read(window, x, y, width, height, port);
+    }
+    change(rows, minor, window, command, out);
+    Ok(None)
+}
+
 // Takes a message whose header has no fault: checks it whole, and only then does what it asks for and
-// answers. A message that is refused changes nothing.
-pub(crate) fn take<O: Outlet>(
+// answers. A message that is refused changes nothing, and nothing is read for it. Answers the
+// rectangle of the window that was read, if one was.
+pub(crate) fn take<P: FramePort, O: Outlet>(
     rows: &mut Rows,
     minor: u32,
     header: Header,
     body: &[u8],
+    port: &mut P,
     out: &mut O,
-) -> Result<(), Cause>
+) -> Result<Option<Rect>, Cause>
     requires len { length body.now ≡ header.len }
     requires taken { head_fault header ≡ None }
-    ensures { (sizes : Sizes) → sizes.pages ≡ rows.old.pages → Carries O.takes out.old out.new rows.old rows.new result (verdict sizes rows.old.guest minor rows.old.rows (Whole header body.now)) }
+    requires guest { rows.old.guest < P.guests port.old }
+    requires pages { P.pages port.old ≡ rows.old.pages }
+    ensures carries { (sizes : Sizes) → sizes.pages ≡ rows.old.pages → sizes.tiles ≡ rows.old.tiles →
+        Carries O.takes out.old out.new (P.state port.old rows.old.guest) (P.state port.new rows.old.guest) rows.old rows.new result (verdict sizes rows.old.guest minor rows.old.rows (Whole header body.now)) }
+    ensures others { (other : ℕ) → (other ≡ rows.old.guest → ⊥) → P.state port.new other ≡ P.state port.old other }
+    ensures guests { P.guests port.new ≡ P.guests port.old }
+    ensures port_pages { P.pages port.new ≡ P.pages port.old }
 {
     let msg = match body_of(body, header) {
         Ok(msg) => msg,
@@ -96,10 +137,7 @@ pub(crate) fn take<O: Outlet>(
         }
     };
     match rows.check(&msg, header) {
-        Ok(command) => {
-            obey(rows, minor, header.window, &command, out);
-            Ok(())
-        }
+        Ok(command) => obey(rows, minor, header.window, &command, port, out),
         Err(cause) => Err(cause),
     }
 }

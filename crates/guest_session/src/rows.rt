@@ -1,29 +1,37 @@
 // The windows of one guest, and what its messages do to them.
-ghost use Rattle.std.specs.Prelude.{◌≡◌, ℕ, ◌+◌, ◌<◌, ◌≤◌, [], false, length, is_some, Some, None, IfOk, IfSome, MatchOption, MatchResult, if◌then◌else◌};
+ghost use Rattle.std.specs.Prelude.{◌≡◌, ℕ, ◌+◌, ◌-◌, ◌<◌, ◌≤◌, ◌^◌, ◌&&◌, nat_lt, [], true, false, length, map, is_some, Some, None, IfOk, IfSome, MatchOption, MatchResult, if◌then◌else◌};
 ghost use Rattle.gui_wire.specs.Seen.{message, references};
-ghost use Rattle.desk_laws.specs.Rows.{Row, row_with};
-ghost use Rattle.desk_laws.specs.Effects.{Added, Replaced, Removed, created, id_if, refs_besides};
+ghost use Rattle.desk_laws.specs.Rows.{Row, row_with, span};
+ghost use Rattle.desk_laws.specs.Sizes.{Sizes};
+ghost use Rattle.desk_laws.specs.Effects.{Added, Removed, clipped, created, id_if, reads, refs_besides};
 ghost use Rattle.desk_laws.specs.Checks.{first_cause};
 ghost use Rattle.message_checks.specs.Commands.{IsCommandOf};
 ghost use Rattle.guest_session.specs.SessionView.{AreRows, IsPlace};
 ghost use Rattle.guest_session.specs.Panes.{ShowsRow};
-ghost use Rattle.guest_session.specs.RowsView.{with_change, with_row, with_dump};
-ghost use Rattle.guest_session.specs.Edits.{FitsEdit, row_edited};
+ghost use Rattle.tile_store.specs.Held.{colour_at};
+ghost use Rattle.tile_store.specs.Contents.{colour_or};
+ghost use Rattle.guest_session.specs.RowsView.{FitsDump, with_change, with_row, with_dump};
+ghost use Rattle.guest_session.specs.Edits.{EditsPixels, FitsEdit, row_edited, tiles_edited};
+ghost use Rattle.guest_session.specs.Reading.{ReadsAs, content_in};
 
+use crate::draw::{clip, read_at, width_of};
 use crate::edit::{Edit, edit_pane};
 use desk_laws::{Cause, Ids};
-use gui_num::{NoMemory, Rect};
+use frame_pool::FramePort;
+use gui_num::{NoMemory, Point, Rect};
 use gui_wire::{AgentMsg, Header, Refs};
 use message_checks::{Command, Limits};
 use std::alloc::Global;
 use std::marker::Model;
+use tile_store::Tiles;
 use window_table::{Pane, Table};
 
-// The windows of one guest, seen as the rows of the definitions.
+// The windows of one guest and what was read of their pixels, seen as the rows of the definitions.
 #[derive(Drop)]
 pub(crate) struct Rows {
     guest: u32,
     table: Table,
+    tiles: Tiles,
 }
 
 impl Model for Rows {
@@ -31,20 +39,22 @@ impl Model for Rows {
 
     ghost Value = { RowsView };
 
-    ghost view = { λ r. viewed r.guest r.table.pages r.table };
+    ghost view = { λ r. viewed r.guest r.table r.tiles };
 
-    ghost invariant = { λ r. AreKept r.table };
+    ghost invariant = { λ r. AreKept r.table r.tiles.held };
 }
 
 impl Rows {
-    // No window, for a guest whose frames have so many pages. It takes all memory that is ever needed.
-    pub(crate) fn new(alloc: Global, guest: u32, pages: u32) -> Result<Rows, NoMemory>
-        requires { pages ≤ 16384 }
-        ensures { IfOk result (λ rows. rows ≡ record { guest = guest; pages = pages; rows = [] }) }
+    // No window, for a guest whose frames have so many pages and whose windows may take so many tiles.
+    // It takes all memory that is ever needed.
+    pub(crate) fn new(alloc: Global, guest: u32, pages: u32, tiles: u32) -> Result<Rows, NoMemory>
+        requires pages { pages ≤ 16384 }
+        ensures { IfOk result (λ rows. rows ≡ record { guest = guest; pages = pages; tiles = tiles; rows = [] }) }
     {
         Ok(Rows {
             guest,
             table: Table::new(alloc, pages)?,
+            tiles: Tiles::new(alloc, tiles)?,
         })
     }
 
@@ -122,6 +132,7 @@ impl Rows {
     {
         if let Some(slot) = self.table.slot_of(window) {
             self.table.remove(slot);
+            self.tiles.drop_slot(slot);
         }
     }
 
@@ -132,12 +143,14 @@ impl Rows {
     {
         if let Some(slot) = self.table.slot_of(window) {
             edit_pane(self.table.get_mut(slot), edit);
+            cut_for(&mut self.tiles, slot, edit);
         }
     }
 
     // Gives a window a dump of this size, in pixels, with these page references.
     pub(crate) fn set_dump(&mut self, window: u32, width: u32, height: u32, refs: &Refs<'_>)
-        requires { refs_besides window self.old.rows + length (references refs.now) ≤ self.old.pages }
+        requires budget { refs_besides window self.old.rows + length (references refs.now) ≤ self.old.pages }
+        requires fits { FitsDump self.old.pages width height (references refs.now) }
         ensures { (row : Row) → row_with window self.old.rows ≡ Some row → self.new ≡ with_row (with_dump width height (references refs.now) row) self.old }
     {
         if let Some(slot) = self.table.slot_of(window) {
@@ -150,5 +163,99 @@ impl Rows {
         ensures { self.new ≡ record self.old { rows = [] } }
     {
         self.table.clear();
+        self.tiles.clear();
+    }
+
+    // What was last read at a pixel of a window.
+    pub(crate) fn content(&self, window: u32, x: u32, y: u32) -> Option<u32>
+        ensures { result ≡ content_in (row_with window self.now.rows) x y }
+    {
+        match self.table.slot_of(window) {
+            Some(slot) => colour_of(&self.tiles, slot, self.table.get(slot).place, x, y),
+            None => None,
+        }
+    }
+
+    // Writes the colours of a window's pixels from column `x` on in row `y`, `blank` where nothing was
+    // read.
+    pub(crate) fn content_row(&self, window: u32, x: u32, y: u32, blank: u32, out: &mut [u32])
+        requires { x + length out.old ≤ 65536 }
+        ensures { out.new ≡ map (λ i. colour_or blank (content_in (row_with window self.now.rows) i y)) (span x (length out.old)) }
+    {
+        match self.table.slot_of(window) {
+            Some(slot) => self.tiles.read_row(slot, x, y, blank, out),
+            None => out.fill(blank),
+        }
+    }
+
+    // Reads an area of a window from the guest's frames, and answers what was read of it. `PixelBudget`
+    // where it would take more tiles than are free; nothing is read then.
+    pub(crate) fn read<P: FramePort>(
+        &mut self,
+        window: u32,
+        x: u32,
+        y: u32,
+        width: u32,
+        height: u32,
+        port: &mut P,
+    ) -> Result<Option<Rect>, Cause>
+        requires guest { self.old.guest < P.guests port.old }
+        requires pages { P.pages port.old ≡ self.old.pages }
+        requires x { x < 2 ^ 31 }
+        requires y { y < 2 ^ 31 }
+        requires width { width < 2 ^ 31 }
+        requires height { height < 2 ^ 31 }
+        ensures reads { (sizes : Sizes) → sizes.tiles ≡ self.old.tiles → (row : Row) → row_with window self.old.rows ≡ Some row →
+            ReadsAs (P.state port.old self.old.guest) (P.state port.new self.old.guest) self.old self.new result (reads sizes self.old.rows row (clipped row row.dump x y width height)) }
+        ensures others { (other : ℕ) → (other ≡ self.old.guest → ⊥) → P.state port.new other ≡ P.state port.old other }
+        ensures guests { P.guests port.new ≡ P.guests port.old }
+        ensures port_pages { P.pages port.new ≡ P.pages port.old }
+    {
+        match self.table.slot_of(window) {
+            Some(slot) => {
+                let place = self.table.get(slot).place;
+                let size = self.table.dump_at(slot);
+                let area = clip(place, size, x, y, width, height);
+                read_at(
+                    &mut self.tiles,
+                    &self.table,
+                    slot,
+                    width_of(size),
+                    area,
+                    self.guest,
+                    port,
+                )
+            }
+            None => Ok(None),
+        }
+    }
+}
+
+// The colour of a slot's pixel within this place.
+fn colour_of(tiles: &Tiles, slot: u32, place: Rect, x: u32, y: u32) -> Option<u32>
+    requires w { place.w ≤ 16384 }
+    requires h { place.h ≤ 6144 }
+    ensures { result ≡ (if nat_lt x place.w && nat_lt y place.h then colour_at slot x y tiles.now.held else None) }
+{
+    if x < place.w && y < place.h {
+        tiles.at(
+            slot,
+            Point {
+                x: x as i32,
+                y: y as i32,
+            },
+        )
+    } else {
+        None
+    }
+}
+
+// Forgets what lies outside the size that a change gives the window at a slot.
+fn cut_for(tiles: &mut Tiles, slot: u32, edit: &Edit<'_>)
+    ensures tiles { tiles.new ≡ record tiles.old { held = tiles_edited edit.now slot tiles.old.held } }
+    ensures pixels { EditsPixels edit.now slot tiles.old.held tiles.new.held }
+{
+    if let Edit::Configure { place, .. } = *edit {
+        tiles.cut(slot, place.w, place.h);
     }
 }

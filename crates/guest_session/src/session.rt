@@ -1,10 +1,10 @@
 // One guest's session.
-ghost use Rattle.std.specs.Prelude.{◌≡◌, ℕ, ◌+◌, ◌-◌, ◌<◌, ◌≤◌, List, [], ◌++◌, length, take, Some, None, false, true, IfOk, IfSome, MatchOption};
+ghost use Rattle.std.specs.Prelude.{◌≡◌, ℕ, ◌+◌, ◌-◌, ◌<◌, ◌≤◌, List, [], ◌++◌, length, take, map, option_map, Some, None, false, true, IfOk, IfSome, MatchOption};
 ghost use Rattle.gui_wire.specs.declared.Header.{Header};
 ghost use Rattle.desk_laws.specs.declared.cause.Cause.{Cause};
 ghost use Rattle.desk_laws.specs.Rules.{first_broken};
 ghost use Rattle.desk_laws.specs.Sizes.{sizes_of};
-ghost use Rattle.desk_laws.specs.Rows.{row_with};
+ghost use Rattle.desk_laws.specs.Rows.{row_with, span};
 ghost use Rattle.desk_laws.specs.Stream.{front};
 ghost use Rattle.desk_laws.specs.Stream as cut;
 ghost use Rattle.in_stream.specs.Received.{StandsFor};
@@ -12,6 +12,8 @@ ghost use Rattle.in_stream.specs.Taking.{DropsUnit};
 ghost use Rattle.guest_session.specs.SessionView.{HasRows, IsEnded, IsPlace, opened, with_stream};
 ghost use Rattle.guest_session.specs.Panes.{ShowsRow};
 ghost use Rattle.guest_session.specs.Clips.{BeginsWithClip, HasClip, HasKeptClip};
+ghost use Rattle.tile_store.specs.Contents.{colour_or};
+ghost use Rattle.guest_session.specs.Reading.{content_in};
 ghost use Rattle.guest_session.specs.Turns.{Turns};
 
 use crate::Turn;
@@ -19,7 +21,8 @@ use crate::numbers::{Numbers, numbers_of};
 use crate::rows::Rows;
 use crate::units::{ended_by, take_unit};
 use desk_laws::{Cause, Setup};
-use gui_num::NoMemory;
+use frame_pool::FramePort;
+use gui_num::{Colour, NoMemory};
 use in_stream::{Front, InStream};
 use io_ports::Outlet;
 use std::alloc::Global;
@@ -68,7 +71,7 @@ impl Session {
         Ok(Session {
             numbers,
             stream: InStream::new(alloc)?,
-            rows: Rows::new(alloc, guest, numbers.pages)?,
+            rows: Rows::new(alloc, guest, numbers.pages, numbers.tiles)?,
             minor: 0,
             ended: None,
         })
@@ -94,16 +97,23 @@ impl Session {
 
     /// Takes at most one message off the bytes, or the version word, and answers the guest through the
     /// outlet. Wait exactly where none is there whole. A message that is refused ends the session with
-    /// its cause, its windows are then gone, and nothing is answered; that the session ended isn't
-    /// posted here. After the end it answers Wait and does nothing.
+    /// its cause, its windows are then gone, nothing is answered and no frame is read; that the session
+    /// ended isn't posted here. After the end it answers Wait and does nothing.
     ///
-    /// A version word whose major number isn't 1 is refused (`BadVersion`), and what `InStream::front`
-    /// and `message_checks::check` refuse. Answered are the version word, CONFIGURE, and from minor
-    /// version 7 on WINDOW_DUMP; that an agent below version 1.4 isn't told the daemon's own version is
-    /// this project's own.
-    pub fn turn<O: Outlet>(&mut self, out: &mut O) -> Turn
-        ensures turned { self.old.ended ≡ None → (rest : List ℕ) → StandsFor self.old.stream rest → Turns O.takes out.old out.new self.old self.new result (front self.old.stream.greeted rest) }
-        ensures over { (cause : Cause) → self.old.ended ≡ Some cause → (result ≡ Turn.Wait) × (self.new ≡ self.old) × (out.new ≡ out.old) }
+    /// A version word whose major number isn't 1 is refused (`BadVersion`), what `InStream::front` and
+    /// `message_checks::check` refuse, and an SHMIMAGE that would take more tiles than are free
+    /// (`PixelBudget`). Answered are the version word, CONFIGURE, and from minor version 7 on
+    /// WINDOW_DUMP; that an agent below version 1.4 isn't told the daemon's own version is this
+    /// project's own. Of the port only this guest's frames are read, each pixel of a reported area
+    /// once, row by row from the top and from left to right.
+    pub fn turn<P: FramePort, O: Outlet>(&mut self, port: &mut P, out: &mut O) -> Turn
+        requires guest { self.old.guest < P.guests port.old }
+        requires pages { P.pages port.old ≡ self.old.sizes.pages }
+        ensures turned { self.old.ended ≡ None → (rest : List ℕ) → StandsFor self.old.stream rest → Turns O.takes out.old out.new (P.state port.old self.old.guest) (P.state port.new self.old.guest) self.old self.new result (front self.old.stream.greeted rest) }
+        ensures over { (cause : Cause) → self.old.ended ≡ Some cause → (result ≡ Turn.Wait) × (self.new ≡ self.old) × (out.new ≡ out.old) × (P.state port.new self.old.guest ≡ P.state port.old self.old.guest) }
+        ensures others { (other : ℕ) → (other ≡ self.old.guest → ⊥) → P.state port.new other ≡ P.state port.old other }
+        ensures guests { P.guests port.new ≡ P.guests port.old }
+        ensures port_pages { P.pages port.new ≡ P.pages port.old }
     {
         if self.ended.is_some() {
             return Turn::Wait;
@@ -113,6 +123,7 @@ impl Session {
             &mut self.rows,
             &self.numbers,
             &mut self.minor,
+            port,
             out,
         );
         self.ended = ended_by(turn);
@@ -170,5 +181,23 @@ impl Session {
         ensures sound { HasRows self.now }
     {
         self.rows.pane(window)
+    }
+
+    /// What was last read at a pixel of a window, counted from the upper left corner of its place.
+    /// `None` exactly where the guest has no such window, the pixel isn't in it, or nothing was read
+    /// there.
+    pub fn content(&self, window: u32, x: u32, y: u32) -> Option<Colour>
+        ensures { option_map (λ c. c.0) result ≡ content_in (row_with window self.now.rows) x y }
+    {
+        self.rows.content(window, x, y).map(Colour)
+    }
+
+    /// Writes the colours of a window's pixels from column `x` on in row `y`, as many as `out` has
+    /// room for: what was last read of each, `blank` where nothing was.
+    pub fn content_row(&self, window: u32, x: u32, y: u32, blank: Colour, out: &mut [u32])
+        requires { x + length out.old ≤ 65536 }
+        ensures { out.new ≡ map (λ i. colour_or blank.0 (content_in (row_with window self.now.rows) i y)) (span x (length out.old)) }
+    {
+        self.rows.content_row(window, x, y, blank.0, out);
     }
 }

@@ -8,8 +8,8 @@ pub enum Turn {
     /// No whole message, word or fault is there.
     Wait,
     /// A message, or the version word, had its effect and was answered. `window` is that of the
-    /// message's header, 0 for the version word. `drawn` is what was read of the window's pixels; so
-    /// far no pixels are read, and it is None.
+    /// message's header, 0 for the version word. `drawn` is the rectangle of the window's pixels that
+    /// was read, counted from the upper left corner of its place; None where no pixel was.
     Changed { window: u32, drawn: Option<Rect> },
     /// Clipboard data of at most 65,000 bytes stands in front.
     ClipWhole,

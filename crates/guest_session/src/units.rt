@@ -1,6 +1,7 @@
 // One unit of a guest's bytes, taken.
-ghost use Rattle.std.specs.Prelude.{◌≡◌, ℕ, ◌≤◌, List, [], true, false, None};
+ghost use Rattle.std.specs.Prelude.{◌≡◌, ℕ, ◌<◌, ◌≤◌, List, [], true, false, None};
 ghost use Rattle.desk_laws.specs.Sizes.{Sizes};
+ghost use Rattle.desk_laws.specs.Frames.{PortState};
 ghost use Rattle.desk_laws.specs.Stream as cut;
 ghost use Rattle.in_stream.specs.Received.{StandsFor};
 ghost use Rattle.guest_session.specs.Numbers.{sizes_in};
@@ -14,6 +15,7 @@ use crate::obey::take;
 use crate::replies::greet;
 use crate::rows::Rows;
 use desk_laws::Cause;
+use frame_pool::FramePort;
 use gui_wire::WireFault;
 use in_stream::{Front, InStream};
 use io_ports::Outlet;
@@ -40,7 +42,7 @@ fn refuse(rows: &mut Rows, cause: Cause) -> Turn
     Turn::Ended(cause)
 }
 
-// Takes the version word, whose upper half is the major version, and answers it.
+// Takes the version word, whose upper half is the major version, and answers it. No frame is read.
 fn take_word<O: Outlet>(
     stream: &mut InStream,
     rows: &mut Rows,
@@ -52,7 +54,8 @@ fn take_word<O: Outlet>(
     requires wide { numbers.now.width ≤ 8192 }
     requires high { numbers.now.height ≤ 8192 }
     ensures pages { rows.new.pages ≡ rows.old.pages }
-    ensures turned { (rest : List ℕ) → StandsFor stream.old rest → Turns O.takes out.old out.new
+    ensures tiles { rows.new.tiles ≡ rows.old.tiles }
+    ensures turned { (port : PortState) (rest : List ℕ) → StandsFor stream.old rest → Turns O.takes out.old out.new port port
         (joined (sizes_in numbers.now) stream.old rows.old minor.old None)
         (joined (sizes_in numbers.now) stream.new rows.new minor.new (parts.ended_by result))
         result (cut.front false rest) }
@@ -74,25 +77,38 @@ fn take_word<O: Outlet>(
 
 // Takes what stands in front behind the version word: a message, a fault, or nothing whole.
 // Clipboard data stays.
-fn take_front<O: Outlet>(stream: &mut InStream, rows: &mut Rows, minor: u32, out: &mut O) -> Turn
+fn take_front<P: FramePort, O: Outlet>(
+    stream: &mut InStream,
+    rows: &mut Rows,
+    minor: u32,
+    port: &mut P,
+    out: &mut O,
+) -> Turn
     requires greeted { stream.old.greeted ≡ true }
+    requires guest { rows.old.guest < P.guests port.old }
+    requires port_pages { P.pages port.old ≡ rows.old.pages }
     ensures pages { rows.new.pages ≡ rows.old.pages }
-    ensures turned { (sizes : Sizes) → sizes.pages ≡ rows.old.pages → (rest : List ℕ) → StandsFor stream.old rest → Turns O.takes out.old out.new
+    ensures tiles { rows.new.tiles ≡ rows.old.tiles }
+    ensures turned { (sizes : Sizes) → sizes.pages ≡ rows.old.pages → sizes.tiles ≡ rows.old.tiles → (rest : List ℕ) → StandsFor stream.old rest → Turns O.takes out.old out.new
+        (P.state port.old rows.old.guest) (P.state port.new rows.old.guest)
         (joined sizes stream.old rows.old minor None)
         (joined sizes stream.new rows.new minor (parts.ended_by result))
         result (cut.front true rest) }
+    ensures others { (other : ℕ) → (other ≡ rows.old.guest → ⊥) → P.state port.new other ≡ P.state port.old other }
+    ensures guests { P.guests port.new ≡ P.guests port.old }
+    ensures port_pages { P.pages port.new ≡ P.pages port.old }
 {
     match stream.front() {
         Front::Whole { header, body } => {
             if header.kind == CLIPBOARD_DATA {
                 return Turn::ClipWhole;
             }
-            match take(rows, minor, header, body, out) {
-                Ok(()) => {
+            match take(rows, minor, header, body, port, out) {
+                Ok(drawn) => {
                     stream.drop_front();
                     Turn::Changed {
                         window: header.window,
-                        drawn: None,
+                        drawn,
                     }
                 }
                 Err(cause) => refuse(rows, cause),
@@ -115,24 +131,33 @@ fn take_front<O: Outlet>(stream: &mut InStream, rows: &mut Rows, minor: u32, out
 }
 
 // Takes what stands in front: the version word first, then messages.
-pub(crate) fn take_unit<O: Outlet>(
+pub(crate) fn take_unit<P: FramePort, O: Outlet>(
     stream: &mut InStream,
     rows: &mut Rows,
     numbers: &Numbers,
     minor: &mut u32,
+    port: &mut P,
     out: &mut O,
 ) -> Turn
     requires wide { numbers.now.width ≤ 8192 }
     requires high { numbers.now.height ≤ 8192 }
     requires pages { numbers.now.pages ≡ rows.old.pages }
+    requires tiles { numbers.now.tiles ≡ rows.old.tiles }
+    requires guest { rows.old.guest < P.guests port.old }
+    requires port_pages { P.pages port.old ≡ rows.old.pages }
     ensures pages { numbers.now.pages ≡ rows.new.pages }
+    ensures tiles { numbers.now.tiles ≡ rows.new.tiles }
     ensures turned { (rest : List ℕ) → StandsFor stream.old rest → Turns O.takes out.old out.new
+        (P.state port.old rows.old.guest) (P.state port.new rows.old.guest)
         (joined (sizes_in numbers.now) stream.old rows.old minor.old None)
         (joined (sizes_in numbers.now) stream.new rows.new minor.new (parts.ended_by result))
         result (cut.front stream.old.greeted rest) }
+    ensures others { (other : ℕ) → (other ≡ rows.old.guest → ⊥) → P.state port.new other ≡ P.state port.old other }
+    ensures guests { P.guests port.new ≡ P.guests port.old }
+    ensures port_pages { P.pages port.new ≡ P.pages port.old }
 {
     if stream.greeted() {
-        take_front(stream, rows, *minor, out)
+        take_front(stream, rows, *minor, port, out)
     } else {
         take_word(stream, rows, numbers, minor, out)
     }

@@ -14,10 +14,10 @@ drop_word-requires-clause-unit g c =
     has_unit-word s (some_rest s) c.in-Some.word c.requires.greeted (stands-some_rest s) (sym (c.in-Some.ensures (some_rest s) (stands-some_rest s)))
 
 pub returns-clause-turned : goal.returns-clause-turned
-returns-clause-turned g c = λ rest stands.
+returns-clause-turned g c = λ port rest stands.
     let s = c.args.stream.now in
     let f = shown-word rest c.in-Some.word (sym (c.in-Some.ensures rest stands)) in
     let P : ℕ → Type 0 = λ n. Leads g.O.Outlet.takes c.args.out.now (replies n (greeting (sizes_in c.args.numbers.now) (c.in-Some.word % 65536))) c.greet.new.out in
-    turn-greets g.O.Outlet.takes c.args.out.now (sizes_in c.args.numbers.now) s c.args.rows.now c.args.minor.now (front false rest) c.in-Some.word f.0 c.greet.new.out c.drop_word.new.self f.1 c.if-word-ne1.false
+    turn-greets g.O.Outlet.takes c.args.out.now port (sizes_in c.args.numbers.now) s c.args.rows.now c.args.minor.now (front false rest) c.in-Some.word f.0 c.greet.new.out c.drop_word.new.self f.1 c.if-word-ne1.false
     (subst P c.guest.ensures c.greet.ensures) c.drop_word.ensures.greeted
     (c.drop_word.ensures.drops rest (Word c.in-Some.word) f.0 stands (ap (λ t. front t rest) c.requires.greeted ∙ f.1))

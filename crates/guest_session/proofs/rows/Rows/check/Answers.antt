@@ -16,6 +16,6 @@ returns-clause-first c =
     let P : Option Cause → Type 0 = λ o. MatchResult c.check.result (λ _. o ≡ None) (λ cause. o ≡ Some cause) in
     subst P
     (ap (λ n. first_cause n (plain_rows s.table.entries) c.args.header m) c.pages.ensures.is
-    ∙ first_cause-same s.table.pages (plain_rows s.table.entries) (own_rows s.guest s.table.entries) (looks_same s.guest s.table.entries) c.args.header m
+    ∙ first_cause-same s.table.pages (plain_rows s.table.entries) (own_rows s.guest s.tiles.held s.table.entries) (looks_same s.guest s.tiles.held s.table.entries) c.args.header m
     ∙ ap (λ (v : RowsView). first_cause v.pages v.rows c.args.header m) c.self.view_is)
     c.check.ensures.first

@@ -8,11 +8,13 @@ use Rattle.guest_session.proofs.rows.Rows.known.Goals as goal
 pub returns-then-known : goal.returns-then-known
 returns-then-known c =
     let n = c.args.window in
-    ap (λ b. id_if b n) (sym c.if-known.true ∙ c.known.ensures ∙ known-is c.self.inside.guest n c.self.inside.table.entries)
+    let s = c.self.inside in
+    ap (λ b. id_if b n) (sym c.if-known.true ∙ c.known.ensures ∙ known-is s.guest n s.tiles.held s.table.entries)
     ∙ ap (λ (v : RowsView). id_if (is_some (row_with n v.rows)) n) c.self.view_is
 
 pub returns-else-known : goal.returns-else-known
 returns-else-known c =
     let n = c.args.window in
-    ap (λ b. id_if b n) (sym c.if-known.false ∙ c.known.ensures ∙ known-is c.self.inside.guest n c.self.inside.table.entries)
+    let s = c.self.inside in
+    ap (λ b. id_if b n) (sym c.if-known.false ∙ c.known.ensures ∙ known-is s.guest n s.tiles.held s.table.entries)
     ∙ ap (λ (v : RowsView). id_if (is_some (row_with n v.rows)) n) c.self.view_is

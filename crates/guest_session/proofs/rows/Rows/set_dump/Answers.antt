@@ -1,10 +1,12 @@
-use Rattle.std.proofs.Common.{◌≡◌, ◌∙◌, Some, None, refl, sym, ap}
+use Rattle.std.proofs.Common.{◌≡◌, ◌∙◌, Some, None, refl, sym, ap, subst}
+use Rattle.std.specs.Prelude.{ℕ}
 use Rattle.gui_wire.specs.Seen.{references}
 use Rattle.window_table.specs.Entries as entries
-use Rattle.window_table.specs.Entries.{Entry, TableView, with_pane}
-use Rattle.guest_session.specs.RowsView.{with_row, with_dump, viewed}
+use Rattle.window_table.specs.Entries.{Entry, TableView}
+use Rattle.guest_session.specs.SessionView.{IsPlace}
+use Rattle.guest_session.specs.RowsView.{FitsDump, RowsView, StaysInside, with_row, with_dump}
 use Rattle.guest_session.proofs.TableLemmas.{has_slot}
-use Rattle.guest_session.proofs.RowChanges.{kept-updated, viewed-updated, row-is, row-none, dump-fits}
+use Rattle.guest_session.proofs.KeptLemmas.{kept-at, kept-updated, viewed-updated, row-is, row-none, dump-fits}
 use Rattle.guest_session.proofs.rows.Rows.set_dump.Goals as goal
 
 pub set_refs-requires-clause-held : goal.set_refs-requires-clause-held
@@ -14,30 +16,35 @@ set_refs-requires-clause-held c =
 
 pub set_refs-requires-clause-fits : goal.set_refs-requires-clause-fits
 set_refs-requires-clause-fits c =
-    let table = c.self.inside.table in
-    let h = has_slot c.args.window c.in-Some.slot table.entries c.slot_of.ensures.apart c.in-Some.ensures.slot in
-    dump-fits c.self.inside.guest c.self.inside.table.pages c.args.window c.in-Some.slot table c.args.self.now h _ c.self.view_is refl c.requires
+    let s = c.self.inside in
+    let h = has_slot c.args.window c.in-Some.slot s.table.entries c.slot_of.ensures.apart c.in-Some.ensures.slot in
+    dump-fits s.guest c.args.window c.in-Some.slot s.table s.tiles c.args.self.now h _ c.self.view_is c.requires.budget
 
 pub invariant_of-self : goal.invariant_of-self
 invariant_of-self c =
-    let table = c.self.inside.table in
-    kept-updated c.in-Some.slot (entries.with_dump (record { width = c.args.width; height = c.args.height; refs = references c.args.refs.now })) table c.set_refs.new.self c.self.invariant (λ _ _ is. is) c.set_refs.ensures
+    let s = c.self.inside in
+    let refs = references c.args.refs.now in
+    let P : ℕ → Type 0 = λ n. FitsDump n c.args.width c.args.height refs in
+    let fits : FitsDump s.table.pages c.args.width c.args.height refs = subst P (sym (ap (λ (v : RowsView). v.pages) c.self.view_is)) c.requires.fits in
+    let h = has_slot c.args.window c.in-Some.slot s.table.entries c.slot_of.ensures.apart c.in-Some.ensures.slot in
+    kept-updated c.args.window c.in-Some.slot (entries.with_dump (record { width = c.args.width; height = c.args.height; refs = refs })) s.table c.set_refs.new.self s.tiles.held s.tiles.held h c.slot_of.ensures.apart c.self.invariant
+    (λ _. refl) (kept-at (λ (e : Entry). IsPlace e.pane.place) c.args.window c.in-Some.slot s.table.entries h c.self.invariant.placed) fits
+    (kept-at (StaysInside s.tiles.held) c.args.window c.in-Some.slot s.table.entries h c.self.invariant.inside) c.self.invariant.owned c.self.invariant.left (λ _ _ _ _. refl) c.set_refs.ensures
 
 pub returns-in-Some : goal.returns-in-Some
 returns-in-Some c = λ row found.
-    let table = c.self.inside.table in
-    let guest = c.self.inside.guest in
+    let s = c.self.inside in
     let refs = references c.args.refs.now in
-    let h = has_slot c.args.window c.in-Some.slot table.entries c.slot_of.ensures.apart c.in-Some.ensures.slot in
+    let h = has_slot c.args.window c.in-Some.slot s.table.entries c.slot_of.ensures.apart c.in-Some.ensures.slot in
     let new = with_dump c.args.width c.args.height refs row in
-    ap (λ (t : TableView). viewed guest t.pages c.set_refs.new.self) c.set_refs.ensures
-    ∙ viewed-updated guest c.self.inside.table.pages c.args.window c.in-Some.slot table c.set_refs.new.self h c.slot_of.ensures.apart (entries.with_dump (record { width = c.args.width; height = c.args.height; refs = refs })) new refl
-    (ap (with_dump c.args.width c.args.height refs) (row-is guest c.self.inside.table.pages c.args.window c.in-Some.slot table c.args.self.now h row c.self.view_is found))
-    c.set_refs.ensures
+    viewed-updated s.guest c.args.window c.in-Some.slot s.table c.set_refs.new.self s.tiles s.tiles h c.slot_of.ensures.apart (entries.with_dump (record { width = c.args.width; height = c.args.height; refs = refs })) new refl
+    (ap (with_dump c.args.width c.args.height refs) (row-is s.guest c.args.window c.in-Some.slot s.table s.tiles c.args.self.now h row c.self.view_is found))
+    c.set_refs.ensures refl (λ _ _ _ _. refl)
     ∙ ap (with_row new) c.self.view_is
 
 pub returns-in_default : goal.returns-in_default
 returns-in_default c = λ row found.
-    let none = row-none c.self.inside.guest c.self.inside.table.pages c.args.window c.self.inside.table c.args.self.now c.self.view_is c.in_default.ensures.slot in
+    let s = c.self.inside in
+    let none = row-none s.guest c.args.window s.table s.tiles c.args.self.now c.self.view_is c.in_default.ensures.slot in
     let both : None ≡ Some row = sym none ∙ found in
     absurd cc

@@ -1,0 +1,18 @@
+use Rattle.std.proofs.Common.{◌≡◌, ℕ, ◌-◌}
+use Rattle.tile_store.specs.Held.{places_in_row}
+use Rattle.tile_store.specs.Contents.{KeepsHeld}
+use Rattle.guest_session.specs.Areas.{dump_at, tiles_read, frames_read}
+use Rattle.guest_session.proofs.AreaLemmas.{Reading}
+use Rattle.guest_session.proofs.read.read_row_of.Given as goal
+
+abbrev pub invariant-loop-x : goal.invariant-loop-x
+invariant-loop-x g l = record {
+  reads : Reading l.slot (dump_at l.slot l.table.entries) (places_in_row l.y l.x (l.past - l.x)) l.tiles.held (g.P.FramePort.state l.port l.guest)
+      (tiles_read l.slot (dump_at l.slot l.table.entries) (places_in_row l.y l.fn.area.x l.fn.area.w) (g.P.FramePort.state l.fn.port l.guest) l.fn.tiles.held)
+      (frames_read (dump_at l.slot l.table.entries) (places_in_row l.y l.fn.area.x l.fn.area.w) (g.P.FramePort.state l.fn.port l.guest));
+  number : l.tiles.number ≡ l.fn.tiles.number;
+  stay : KeepsHeld l.fn.tiles.held l.tiles.held;
+  others : (other : ℕ) → (other ≡ l.guest → ⊥) → g.P.FramePort.state l.port other ≡ g.P.FramePort.state l.fn.port other;
+  guests : g.P.FramePort.guests l.port ≡ g.P.FramePort.guests l.fn.port;
+  pages : g.P.FramePort.pages l.port ≡ g.P.FramePort.pages l.fn.port;
+}
