@@ -1,5 +1,5 @@
 -- A turn that shows clipboard data.
-use Rattle.std.proofs.Common.{◌≡◌, ℕ, ◌+◌, Bool, true, false, List, [], None, refl, sym, ◌∙◌, ap, subst}
+use Rattle.std.proofs.Common.{◌≡◌, ℕ, ◌+◌, Bool, true, false, List, [], None, refl, sym, ◌∙◌, ap, subst, arith}
 use Rattle.std.proofs.lemmas.Bool.{eqb-true}
 use Rattle.gui_wire.specs.AgentMessages.{reading}
 use Rattle.desk_laws.specs.declared.setup.Setup.{Setup}
@@ -7,7 +7,7 @@ use Rattle.desk_laws.specs.Sizes.{Sizes}
 use Rattle.desk_laws.specs.Stream as stream
 use Rattle.desk_laws.specs.Stream.{StreamUnit, Word, Stop, Whole, Front, Fault, Takes, front, front_of, head_fault, front_by, Cut, cut, is_greeting}
 use Rattle.desk_laws.specs.Rows.{Row}
-use Rattle.desk_laws.specs.Frames.{counted}
+use Rattle.desk_laws.specs.Frames.{PortState, counted}
 use Rattle.desk_laws.specs.Effects.{Same, Goes, Greets, Ends, Reads, Verdict, verdict, message_verdict}
 use Rattle.desk_laws.specs.Scene.{Post}
 use Rattle.desk_laws.specs.State.{DeskState}
@@ -23,7 +23,7 @@ use Rattle.desk_core.specs.DeskView.{DeskView}
 use Rattle.desk_core.specs.DeskStands.{StandsWith}
 use Rattle.desk_core.specs.PieceSteps.{TookSome}
 use Rattle.desk_laws.proofs.FollowChanges.{followed-same}
-use Rattle.desk_core.proofs.StandLemmas.{moved, HadLists}
+use Rattle.desk_core.proofs.StandLemmas.{moved, HadLists, first-frames}
 use Rattle.desk_core.proofs.UnitTurns.{went-took}
 
 clip-verdict : (sizes : Sizes) (guest minor : ℕ) (own : List Row) (unit : StreamUnit) → is_clip unit ≡ true → verdict sizes guest minor own unit ≡ Goes Same []
@@ -46,52 +46,55 @@ IsClipTurn turns.ClipOver = Unit {0}
 IsClipTurn (turns.Ended cause) = ⊥
 
 -- what a clipboard turn tells
-pub record ShownClip {O : Type 0} (out out' : O) (old new : SessionView) (f : Front) : Type 0 where
+pub record ShownClip {O : Type 0} (out out' : O) (port port' : PortState) (old new : SessionView) (f : Front) : Type 0 where
   pub unit : StreamUnit
   pub behind : List ℕ
   pub is : f ≡ Takes unit behind
   pub clip : is_clip unit ≡ true
   pub same : new ≡ old
   pub silent : out' ≡ out
+  pub unread : port' ≡ port
 
-not-decided : {O : Type 0} (takes : O → Post → O → Type 0) (out out' : O) (old new : SessionView) (turn : Turn) (window : ℕ) (behind : List ℕ) (v : Verdict)
-    → IsClipTurn turn → Decides takes out out' old new turn window behind v → ⊥
-not-decided takes out out' old new turn window behind (Ends cause) c d = let P : Turn → Type 0 = λ t. IsClipTurn t in subst P d.answer c
-not-decided takes out out' old new turn window behind (Greets minor answers) c d = let P : Turn → Type 0 = λ t. IsClipTurn t in subst P d.answer c
-not-decided takes out out' old new turn window behind (Goes change answers) c d = let P : Turn → Type 0 = λ t. IsClipTurn t in subst P d.answer c
-not-decided takes out out' old new turn window behind (Reads row area) c d = d
+not-decided : {O : Type 0} (takes : O → Post → O → Type 0) (out out' : O) (port port' : PortState) (old new : SessionView) (turn : Turn) (window : ℕ) (behind : List ℕ) (v : Verdict)
+    → IsClipTurn turn → Decides takes out out' port port' old new turn window behind v → ⊥
+not-decided takes out out' port port' old new turn window behind (Ends cause) c d = let P : Turn → Type 0 = λ t. IsClipTurn t in subst P d.answer c
+not-decided takes out out' port port' old new turn window behind (Greets minor answers) c d = let P : Turn → Type 0 = λ t. IsClipTurn t in subst P d.answer c
+not-decided takes out out' port port' old new turn window behind (Goes change answers) c d = let P : Turn → Type 0 = λ t. IsClipTurn t in subst P d.answer c
+not-decided takes out out' port port' old new turn window behind (Reads row area) c d = let P : Turn → Type 0 = λ t. IsClipTurn t in subst P d.answer c
 
-pub shown-clip : {O : Type 0} (takes : O → Post → O → Type 0) (out out' : O) (old new : SessionView) (turn : Turn) (f : Front)
-    → IsClipTurn turn → Turns takes out out' old new turn f → ShownClip out out' old new f
-shown-clip takes out out' old new turn stream.Wait c t = let P : Turn → Type 0 = λ t. IsClipTurn t in absurd (subst P t.answer c)
-shown-clip takes out out' old new turn (Fault cause) c t = let P : Turn → Type 0 = λ t. IsClipTurn t in absurd (subst P t.answer c)
-shown-clip takes out out' old new turn (Takes unit behind) c t = by_clip (is_clip unit) refl t
+pub shown-clip : {O : Type 0} (takes : O → Post → O → Type 0) (out out' : O) (port port' : PortState) (old new : SessionView) (turn : Turn) (f : Front)
+    → IsClipTurn turn → Turns takes out out' port port' old new turn f → ShownClip out out' port port' old new f
+shown-clip takes out out' port port' old new turn stream.Wait c t = let P : Turn → Type 0 = λ t. IsClipTurn t in absurd (subst P t.answer c)
+shown-clip takes out out' port port' old new turn (Fault cause) c t = let P : Turn → Type 0 = λ t. IsClipTurn t in absurd (subst P t.answer c)
+shown-clip takes out out' port port' old new turn (Takes unit behind) c t = by_clip (is_clip unit) refl t
   where
-    by_clip : (b : Bool) → is_clip unit ≡ b → TakesUnit takes out out' old new turn unit behind b → ShownClip out out' old new (Takes unit behind)
-    by_clip true e t = record { unit = unit; behind = behind; is = refl; clip = e; same = t.stays.session; silent = t.stays.silent }
-    by_clip false e t = absurd (not-decided takes out out' old new turn (window_of unit) behind (verdict old.sizes old.guest old.minor old.rows unit) c t)
+    by_clip : (b : Bool) → is_clip unit ≡ b → TakesUnit takes out out' port port' old new turn unit behind b → ShownClip out out' port port' old new (Takes unit behind)
+    by_clip true e t = record { unit = unit; behind = behind; is = refl; clip = e; same = t.stays.session; silent = t.stays.silent; unread = t.stays.unread }
+    by_clip false e t = absurd (not-decided takes out out' port port' old new turn (window_of unit) behind (verdict old.sizes old.guest old.minor old.rows unit) c t)
 
-pub clip-took : {O : Type 0} (takes : O → Post → O → Type 0) (out : O) (setup : Setup) (held behind : List ℕ) (desk : DeskView) (new : SessionView) (messages : ℕ) (state : DeskState) (unit : StreamUnit)
-    → StandsWith setup held desk state → desk.session.ended ≡ None → front desk.session.stream.greeted held ≡ Takes unit behind → is_clip unit ≡ true
-    → new ≡ with_stream new.stream desk.session → new.stream.greeted ≡ true → StandsFor new.stream behind
+pub clip-took : {O : Type 0} (takes : O → Post → O → Type 0) (out : O) (setup : Setup) (held behind : List ℕ) (desk : DeskView) (new : SessionView) (messages : ℕ) (frames frames' : ℕ → PortState) (state : DeskState) (unit : StreamUnit)
+    → StandsWith setup held desk frames state → desk.session.ended ≡ None → front desk.session.stream.greeted held ≡ Takes unit behind → is_clip unit ≡ true
+    → new ≡ with_stream new.stream desk.session → new.stream.greeted ≡ true → StandsFor new.stream behind → frames' desk.session.guest ≡ frames desk.session.guest
     → messages ≡ counted (desk.messages + 1)
-    → TookSome takes out out setup held desk (moved new desk.layers messages desk) state
-clip-took takes out setup held behind desk new messages state unit stands going is clip same greeted holds count =
+    → TookSome takes out out setup held desk (moved new desk.layers messages desk.glances desk) frames' state
+clip-took takes out setup held behind desk new messages frames frames' state unit stands going is clip same greeted holds unread count =
     let s = desk.session in
     let rows : s.rows ≡ new.rows = sym (ap (λ (x : SessionView). x.rows) same) in
     let L : List Row → Type 0 = λ rs. HadLists rs desk.layers desk.layers in
     let lists : HadLists s.rows desk.layers desk.layers =
     record { lists = followed-same s.rows desk.layers stands.followed; follow = stands.followed; own = stands.own } in
-    went-took takes out out setup held behind desk new desk.layers messages state unit (Goes Same []) [] stands going is
+    let kept : frames 0 ≡ frames' 0 = ap frames (sym stands.guest) ∙ sym unread ∙ ap frames' stands.guest in
+    let still : desk.glances ≡ counted (desk.glances + 0) = omega (arith, stands.glances_in_range) in
+    went-took takes out out setup held behind desk new desk.layers messages desk.glances frames frames' state unit (Goes Same []) [] stands going is
     (clip-verdict s.sizes s.guest s.minor s.rows unit clip) refl refl
     (record {
       rows = stands.rows ∙ rows;
       minor = (stands.opened going).minor ∙ sym (ap (λ (x : SessionView). x.minor) same);
-      readings = refl;
+      port = first-frames setup held desk frames state stands ∙ kept;
       greeted = front-greets s.stream.greeted held unit behind is ∙ sym greeted;
       stands = holds;
       guest = ap (λ (x : SessionView). x.guest) same;
       sizes = ap (λ (x : SessionView). x.sizes) same;
       ended = ap (λ (x : SessionView). x.ended) same ∙ going;
     })
-    (subst L rows lists) (count ∙ ap (λ n. counted (desk.messages + n)) (sym (clip-message unit clip))) greeted refl
+    (subst L rows lists) (record { told = count ∙ ap (λ n. counted (desk.messages + n)) (sym (clip-message unit clip)); read = still }) greeted refl

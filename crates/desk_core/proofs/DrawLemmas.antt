@@ -1,5 +1,5 @@
 -- Windows drawn onto a picture, one after the other.
-use Rattle.std.proofs.Common.{◌≡◌, ℕ, ◌+◌, ◌*◌, Bool, true, false, ◌&&◌, ◌==◌, ◌/◌, ◌%◌, not, replicate, List, [], ◌∷◌, ◌++◌, map, Option, Some, None, refl, sym, ◌∙◌, ap, arith, ℤ, pos}
+use Rattle.std.proofs.Common.{◌≡◌, ℕ, ◌+◌, ◌*◌, Bool, true, false, ◌&&◌, ◌==◌, ◌/◌, ◌%◌, not, List, [], ◌∷◌, ◌++◌, map, Option, Some, None, refl, sym, ◌∙◌, ap, arith, ℤ, pos}
 use Rattle.std.specs.List.{cons_option}
 use Rattle.std.specs.Prelude.{filter_map, if◌then◌else◌, ◌-ℤ◌}
 use Rattle.std.proofs.lemmas.Bool.{and_parts, and_from}
@@ -11,15 +11,17 @@ use Rattle.gui_num.specs.declared.Rect.{Rect}
 use Rattle.gui_num.specs.Rects.{has, grown, on_side}
 use Rattle.desk_laws.specs.declared.row_id.RowId.{RowId}
 use Rattle.desk_laws.specs.declared.setup.Setup.{Setup}
-use Rattle.desk_laws.specs.Rows.{Row, is_shown, outer, row_at}
+use Rattle.desk_laws.specs.Rows.{Row, is_shown, outer, row_at, row_with}
 use Rattle.desk_laws.specs.Layers.{last_that}
-use Rattle.desk_laws.specs.Picture.{pixels, colour_by, colour_read, label_of}
-use Rattle.desk_laws.proofs.PaintLemmas.{last_that-push, blank-content}
+use Rattle.desk_laws.specs.Picture.{pixels, colour_by, colour_read, content_under, label_of, nat_of}
+use Rattle.desk_laws.proofs.PaintLemmas.{last_that-push}
 use Rattle.window_table.specs.declared.pane.Pane.{Pane}
+use Rattle.tile_store.specs.Contents.{colour_or}
+use Rattle.guest_session.specs.Reading.{content_in}
 use Rattle.guest_session.specs.SessionView.{AreRows}
 use Rattle.guest_session.specs.Panes.{ShowsRow}
 use Rattle.desk_core.proofs.RowLemmas.{found-holds, at-window}
-use Rattle.desk_core.specs.Drawing.{colour_under, is_shown_pane}
+use Rattle.desk_core.specs.Drawing.{colour_under, is_shown_pane, shown_at}
 
 pub map-agree : {X : Type 0} (f g : X → ℕ) → ((x : X) → f x ≡ g x) → (xs : List X) → map f xs ≡ map g xs
 map-agree f g same [] = refl
@@ -47,11 +49,19 @@ content-over false true grey label below lies = let e = lies refl in cc
 -- ---- a window more is drawn
 
 -- the colour of a window's pixel
-window-colour : (setup : Setup) (row : Row) (label : ℕ) (p : Point) → row.guest ≡ 0 → label_of setup 0 ≡ label → row.contents ≡ replicate (row.place.w * row.place.h) None
-    → colour_by setup (Some row) p ≡ (if has row.place p then 0x808080 else label)
-window-colour setup row label p guest told blank =
-    ap (λ o. if has row.place p then colour_read o else label_of setup row.guest) (blank-content row (row.place.w * row.place.h) p blank)
-    ∙ ap (λ l. if has row.place p then 0x808080 else l) (ap (label_of setup) guest ∙ told)
+window-colour : (setup : Setup) (row : Row) (label : ℕ) (p : Point) → row.guest ≡ 0 → label_of setup 0 ≡ label
+    → colour_by setup (Some row) p ≡ (if has row.place p then colour_read (content_under row p) else label)
+window-colour setup row label p guest told = ap (λ l. if has row.place p then colour_read (content_under row p) else l) (ap (label_of setup) guest ∙ told)
+
+-- grey stands where nothing was read
+or-grey : (o : Option ℕ) → colour_or 0x808080 o ≡ colour_read o
+or-grey None = refl
+or-grey (Some colour) = refl
+
+-- what a window shows is its row's content
+shows-content : (rows : List Row) (window : ℕ) (row : Row) (p : Point) → row_with window rows ≡ Some row → shown_at rows window row.place p ≡ colour_read (content_under row p)
+shows-content rows window row p found =
+    ap (λ o. colour_or 0x808080 (content_in o (nat_of (p.x -ℤ row.place.x)) (nat_of (p.y -ℤ row.place.y)))) found ∙ or-grey (content_under row p)
 
 -- whether a row is the topmost one at a pixel, if it is drawn last
 abbrev is_over : Setup → Point → Row → Bool
@@ -61,15 +71,15 @@ abbrev rows_of : List Row → List RowId → List Row
 rows_of rows ids = filter_map (λ id. row_at id rows) ids
 
 -- a pixel of a window that is drawn over what lies below it
-abbrev pixel_over : Bool → Rect → ℕ → ℕ → ℕ → Point → ℕ
-pixel_over shown place border label below p =
-    if shown && has (grown place border) p then (if has place p then 0x808080 else label) else below
+abbrev pixel_over : Bool → Rect → (border label shown below : ℕ) → Point → ℕ
+pixel_over visible place border label shown below p =
+    if visible && has (grown place border) p then (if has place p then shown else label) else below
 
 -- a row more is drawn
 row-over : (setup : Setup) (rows : List Row) (ids : List RowId) (id : RowId) (row : Row) (border label : ℕ) (p : Point)
-    → setup.border ≡ border → label_of setup 0 ≡ label → row_at id rows ≡ Some row → row.guest ≡ 0 → row.contents ≡ replicate (row.place.w * row.place.h) None
-    → pixel_over (is_shown row) row.place border label (colour_under setup rows ids p) p ≡ colour_under setup rows (ids ++ id ∷ []) p
-row-over setup rows ids id row border label p wide told found guest blank =
+    → setup.border ≡ border → label_of setup 0 ≡ label → row_at id rows ≡ Some row → row.guest ≡ 0
+    → pixel_over (is_shown row) row.place border label (colour_read (content_under row p)) (colour_under setup rows ids p) p ≡ colour_under setup rows (ids ++ id ∷ []) p
+row-over setup rows ids id row border label p wide told found guest =
     let below = last_that (is_over setup p) (rows_of rows ids) in
     let more : rows_of rows (ids ++ id ∷ []) ≡ rows_of rows ids ++ row ∷ [] =
     filter_map-append (λ i. row_at i rows) ids (id ∷ []) ∙ ap (λ o. rows_of rows ids ++ cons_option o []) found in
@@ -79,7 +89,7 @@ row-over setup rows ids id row border label p wide told found guest blank =
     sym (ap (λ o. colour_by setup o p) top
     ∙ ap (λ b. colour_by setup (if b then Some row else below) p) test
     ∙ chosen (is_shown row && has (grown row.place border) p) below
-    ∙ ap (λ c. if is_shown row && has (grown row.place border) p then c else colour_by setup below p) (window-colour setup row label p guest told blank))
+    ∙ ap (λ c. if is_shown row && has (grown row.place border) p then c else colour_by setup below p) (window-colour setup row label p guest told))
   where
     chosen : (b : Bool) (below : Option Row) → colour_by setup (if b then Some row else below) p ≡ (if b then colour_by setup (Some row) p else colour_by setup below p)
     chosen true below = refl
@@ -88,17 +98,17 @@ row-over setup rows ids id row border label p wide told found guest blank =
 -- a window more is drawn
 pub window-over : (setup : Setup) (rows : List Row) (ids : List RowId) (id : RowId) (pane : Pane) (border label : ℕ) (p : Point)
     → setup.border ≡ border → label_of setup 0 ≡ label → AreRows 0 rows → id.guest ≡ 0 → ShowsRow id.window rows pane
-    → pixel_over (is_shown_pane pane) pane.place border label (colour_under setup rows ids p) p ≡ colour_under setup rows (ids ++ id ∷ []) p
+    → pixel_over (is_shown_pane pane) pane.place border label (shown_at rows id.window pane.place p) (colour_under setup rows ids p) p ≡ colour_under setup rows (ids ++ id ∷ []) p
 window-over setup rows ids id pane border label p wide told own guest shows =
     let row = shows.row in
     let under = colour_under setup rows ids p in
-    let shown : is_shown_pane pane ≡ is_shown row =
+    let visible : is_shown_pane pane ≡ is_shown row =
     ap (λ m. m && not (pane.flags / 4 % 2 == 1)) shows.is.mapped ∙ ap (λ f. row.mapped && not (f / 4 % 2 == 1)) shows.is.flags in
-    ap (λ b. pixel_over b pane.place border label under p) shown
-    ∙ ap (λ (r : Rect). pixel_over (is_shown row) r border label under p) shows.is.place
+    ap (λ b. pixel_over b pane.place border label (shown_at rows id.window pane.place p) under p) visible
+    ∙ ap (λ (r : Rect). pixel_over (is_shown row) r border label (shown_at rows id.window r p) under p) shows.is.place
+    ∙ ap (λ shown. pixel_over (is_shown row) row.place border label shown under p) (shows-content rows id.window row p shows.found)
     ∙ row-over setup rows ids id row border label p wide told (at-window rows id own guest ∙ shows.found)
     (found-holds (λ (r : Row). r.guest ≡ 0) id.window rows row own.own shows.found)
-    (found-holds (λ (r : Row). r.contents ≡ replicate (r.place.w * r.place.h) None) id.window rows row own.blank shows.found)
 
 -- an id without a row draws nothing
 pub none-over : (setup : Setup) (rows : List Row) (ids : List RowId) (id : RowId) (p : Point) → row_at id rows ≡ None

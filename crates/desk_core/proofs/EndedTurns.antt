@@ -9,6 +9,7 @@ use Rattle.desk_laws.specs.declared.cause.Cause.{Cause}
 use Rattle.desk_laws.specs.declared.setup.Setup.{Setup}
 use Rattle.desk_laws.specs.Stream as stream
 use Rattle.desk_laws.specs.Stream.{StreamUnit, Word, Stop, Whole, Front, Fault, Takes, front, front_of, head_fault, front_by, Cut, cut, is_greeting}
+use Rattle.desk_laws.specs.Frames.{PortState}
 use Rattle.desk_laws.specs.Effects.{Goes, Greets, Ends, Reads, Verdict, verdict}
 use Rattle.desk_laws.specs.Following.{without_guest}
 use Rattle.desk_laws.specs.Scene.{Post, Ended, Took}
@@ -29,20 +30,21 @@ use Rattle.desk_core.proofs.EndStands.{ends-stands}
 use Rattle.desk_core.proofs.UnitTurns.{verdict-same}
 
 -- what comes of a fault, or of a unit that ends the session: whatever bytes follow, the session has ended
-pub ended-took : {O : Type 0} (takes : O → Post → O → Type 0) (out out' : O) (setup : Setup) (held : List ℕ) (desk : DeskView) (new : SessionView) (state : DeskState) (unit : StreamUnit) (cause : Cause)
-    → StandsWith setup held desk state → desk.session.ended ≡ None
+pub ended-took : {O : Type 0} (takes : O → Post → O → Type 0) (out out' : O) (setup : Setup) (held : List ℕ) (desk : DeskView) (new : SessionView) (frames frames' : ℕ → PortState) (state : DeskState) (unit : StreamUnit) (cause : Cause)
+    → StandsWith setup held desk frames state → desk.session.ended ≡ None
     → ((left : List ℕ) → (others : List StreamUnit) × ((cut desk.session.stream.greeted (held ++ left)).units ≡ unit ∷ others))
     → verdict desk.session.sizes desk.session.guest desk.session.minor desk.session.rows unit ≡ Ends cause
-    → IsEnded desk.session cause new → takes out (Ended 0 cause) out'
-    → TookSome takes out out' setup held desk (moved new (without_guest 0 desk.layers) desk.messages desk) state
-ended-took takes out out' setup held desk new state unit cause stands going cuts v_is over told =
-    let last = moved new (without_guest 0 desk.layers) desk.messages desk in
+    → IsEnded desk.session cause new → frames' desk.session.guest ≡ frames desk.session.guest → takes out (Ended 0 cause) out'
+    → TookSome takes out out' setup held desk (moved new (without_guest 0 desk.layers) desk.messages desk.glances desk) frames' state
+ended-took takes out out' setup held desk new frames frames' state unit cause stands going cuts v_is over unread told =
+    let last = moved new (without_guest 0 desk.layers) desk.messages desk.glances desk in
+    let kept : frames' 0 ≡ frames 0 = ap frames' (sym stands.guest) ∙ unread ∙ ap frames stands.guest in
     let o = take_unit setup 0 unit state in
     let e = ends setup 0 (Took unit) cause state in
-    let taken : o ≡ e = taken-by setup 0 unit state (Ends cause) (stands.ended ∙ going) (verdict-same setup held desk state unit stands going ∙ v_is) in
-    let stood : StandsWith setup [] last e.desk = ends-stands setup held [] desk new state (Took unit) cause stands over in
-    let P : StepOutcome → Type 0 = λ x. LeadsTo takes out out' setup [] last x in
-    let led : LeadsTo takes out out' setup [] last o = subst P (sym taken) (stood, (out', told, refl)) in
+    let taken : o ≡ e = taken-by setup 0 unit state (Ends cause) (stands.ended ∙ going) (verdict-same setup held desk frames state unit stands going ∙ v_is) in
+    let stood : StandsWith setup [] last frames' e.desk = ends-stands setup held [] desk new frames frames' state (Took unit) cause stands over kept in
+    let P : StepOutcome → Type 0 = λ x. LeadsTo takes out out' setup [] last frames' x in
+    let led : LeadsTo takes out out' setup [] last frames' o = subst P (sym taken) (stood, (out', told, refl)) in
     let gone : (session_of 0 o.desk).ended ≡ Some cause = led.0.ended ∙ over.ended in
     record {
       behind = [];
@@ -93,38 +95,38 @@ not-ended cause false e = cc
 told-cause : (cause cause' : Cause) → turns.Ended cause ≡ turns.Ended cause' → cause ≡ cause'
 told-cause cause cause' e = cc
 
-pub turn-ended : {O : Type 0} (takes : O → Post → O → Type 0) (out mid out' : O) (setup : Setup) (held : List ℕ) (desk : DeskView) (new : SessionView) (cause : Cause) (state : DeskState) (f : Front)
-    → StandsWith setup held desk state → desk.session.ended ≡ None → front desk.session.stream.greeted held ≡ f
-    → Turns takes out mid desk.session new (turns.Ended cause) f → takes mid (Ended 0 cause) out'
-    → TookSome takes out out' setup held desk (moved new (without_guest 0 desk.layers) desk.messages desk) state
-turn-ended {O = O} takes out mid out' setup held desk new cause state stream.Wait stands going is t told = let e = t.answer in absurd (cc)
-turn-ended {O = O} takes out mid out' setup held desk new cause state (Fault c) stands going is t told =
+pub turn-ended : {O : Type 0} (takes : O → Post → O → Type 0) (out mid out' : O) (setup : Setup) (held : List ℕ) (desk : DeskView) (new : SessionView) (cause : Cause) (frames frames' : ℕ → PortState) (state : DeskState) (f : Front)
+    → StandsWith setup held desk frames state → desk.session.ended ≡ None → front desk.session.stream.greeted held ≡ f
+    → Turns takes out mid (frames desk.session.guest) (frames' desk.session.guest) desk.session new (turns.Ended cause) f → takes mid (Ended 0 cause) out'
+    → TookSome takes out out' setup held desk (moved new (without_guest 0 desk.layers) desk.messages desk.glances desk) frames' state
+turn-ended {O = O} takes out mid out' setup held desk new cause frames frames' state stream.Wait stands going is t told = let e = t.answer in absurd (cc)
+turn-ended {O = O} takes out mid out' setup held desk new cause frames frames' state (Fault c) stands going is t told =
     let C : Cause → Type 0 = λ x. takes mid (Ended 0 x) out' in
     let M : O → Type 0 = λ m. takes m (Ended 0 c) out' in
-    ended-took takes out out' setup held desk new state (Stop c) c stands going
+    ended-took takes out out' setup held desk new frames frames' state (Stop c) c stands going
     (λ left. ([], ap (λ (x : Cut). x.units) (cut-faults desk.session.stream.greeted (held ++ left) c (fault-append desk.session.stream.greeted held left c is))))
-    refl t.ended (subst M t.silent (subst C (told-cause cause c t.answer) told))
-turn-ended {O = O} takes out mid out' setup held desk new cause state (Takes unit behind) stands going is t told = by_clip (is_clip unit) t
+    refl t.ended t.unread (subst M t.silent (subst C (told-cause cause c t.answer) told))
+turn-ended {O = O} takes out mid out' setup held desk new cause frames frames' state (Takes unit behind) stands going is t told = by_clip (is_clip unit) t
   where
     s : SessionView
     s = desk.session
 
     by_verdict : (v : Verdict) → verdict desk.session.sizes desk.session.guest desk.session.minor desk.session.rows unit ≡ v
-        → Decides takes out mid desk.session new (turns.Ended cause) (window_of unit) behind v
-        → TookSome takes out out' setup held desk (moved new (without_guest 0 desk.layers) desk.messages desk) state
+        → Decides takes out mid (frames desk.session.guest) (frames' desk.session.guest) desk.session new (turns.Ended cause) (window_of unit) behind v
+        → TookSome takes out out' setup held desk (moved new (without_guest 0 desk.layers) desk.messages desk.glances desk) frames' state
     by_verdict (Ends c) v_is d =
         let C : Cause → Type 0 = λ x. takes mid (Ended 0 x) out' in
         let M : O → Type 0 = λ m. takes m (Ended 0 c) out' in
-        ended-took takes out out' setup held desk new state unit c stands going
+        ended-took takes out out' setup held desk new frames frames' state unit c stands going
         (λ left. (
           (cut true (behind ++ left)).units,
           ap (λ (x : Cut). x.units) (cut-takes desk.session.stream.greeted (held ++ left) unit (behind ++ left) (front_by-append head_fault desk.session.stream.greeted held left unit behind is)),
         ))
-        v_is d.ended (subst M d.silent (subst C (told-cause cause c d.answer) told))
+        v_is d.ended d.unread (subst M d.silent (subst C (told-cause cause c d.answer) told))
     by_verdict (Greets minor answers) v_is d = let e = d.answer in absurd (cc)
     by_verdict (Goes change answers) v_is d = let e = d.answer in absurd (cc)
-    by_verdict (Reads row area) v_is d = absurd d
+    by_verdict (Reads row area) v_is d = let e = d.answer in absurd (cc)
 
-    by_clip : (b : Bool) → TakesUnit takes out mid desk.session new (turns.Ended cause) unit behind b → TookSome takes out out' setup held desk (moved new (without_guest 0 desk.layers) desk.messages desk) state
+    by_clip : (b : Bool) → TakesUnit takes out mid (frames desk.session.guest) (frames' desk.session.guest) desk.session new (turns.Ended cause) unit behind b → TookSome takes out out' setup held desk (moved new (without_guest 0 desk.layers) desk.messages desk.glances desk) frames' state
     by_clip true t = absurd (not-ended cause _ t.answer)
     by_clip false t = by_verdict (verdict desk.session.sizes desk.session.guest desk.session.minor desk.session.rows unit) refl t

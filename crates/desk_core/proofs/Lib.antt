@@ -6,6 +6,7 @@ pub mod StandLemmas
 pub mod EndStands
 pub mod OpeningStands
 pub mod KeptLemmas
+pub mod ReadLemmas
 pub mod UnitTurns
 pub mod ChangedTurns
 pub mod ClipTurns
@@ -14,3 +15,4 @@ pub mod WaitTurns
 pub mod ShorterTurns
 pub mod TurnExits
 pub mod PieceLemmas
+pub mod StepLemmas

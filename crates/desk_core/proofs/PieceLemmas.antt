@@ -5,6 +5,7 @@ use Rattle.std.proofs.lemmas.List.{append-nil, append_assoc}
 use Rattle.desk_laws.specs.declared.cause.Cause.{Cause}
 use Rattle.desk_laws.specs.declared.setup.Setup.{Setup}
 use Rattle.desk_laws.specs.Stream.{Wait, front, Cut, cut}
+use Rattle.desk_laws.specs.Frames.{PortState}
 use Rattle.desk_laws.specs.Scene.{Post, Ended, Input, GuestInput}
 use Rattle.desk_laws.specs.State.{DeskState, Session, StepOutcome, GuestLoad, session_of, with_session, stays, step_after}
 use Rattle.desk_laws.specs.Steps.{take_units, take_bytes, bytes_of_open, take_cut, rest_of_open, end_session, end_of_open, ends}
@@ -21,10 +22,10 @@ use Rattle.desk_core.proofs.PostLemmas.{leads-append, guest-append}
 use Rattle.desk_core.proofs.StandLemmas.{rest-with, pushed-with, held-over}
 
 -- some units, and then some more
-pub took-more : {O : Type 0} (takes : O → Post → O → Type 0) (out mid out' : O) (setup : Setup) (held : List ℕ) (a b c : DeskView) (state : DeskState)
-    → (first : TookSome takes out mid setup held a b state) → TookSome takes mid out' setup first.behind b c first.outcome.desk
-    → TookSome takes out out' setup held a c state
-took-more takes out mid out' setup held a b c state first next =
+pub took-more : {O : Type 0} (takes : O → Post → O → Type 0) (out mid out' : O) (setup : Setup) (held : List ℕ) (a b c : DeskView) (frames frames' : ℕ → PortState) (state : DeskState)
+    → (first : TookSome takes out mid setup held a b frames state) → TookSome takes mid out' setup first.behind b c frames' first.outcome.desk
+    → TookSome takes out out' setup held a c frames' state
+took-more takes out mid out' setup held a b c frames frames' state first next =
     let P : List Post → Type 0 = λ ps. Leads takes out ps out' in
     record {
       behind = next.behind;
@@ -52,10 +53,10 @@ took-more takes out mid out' setup held a b c state first next =
 -- ---- a whole piece
 
 -- after some units
-pub along-more : {O : Type 0} (takes : O → Post → O → Type 0) (first out out' : O) (setup : Setup) (old new : DeskView) (left : List ℕ) (whole : StepOutcome)
-    → (along : IsAlong takes first out setup old left whole) → TookSome takes out out' setup along.held old new along.state
-    → IsAlong takes first out' setup new left whole
-along-more takes first out out' setup old new left whole along took =
+pub along-more : {O : Type 0} (takes : O → Post → O → Type 0) (first out out' : O) (setup : Setup) (old new : DeskView) (frames frames' : ℕ → PortState) (left : List ℕ) (whole : StepOutcome)
+    → (along : IsAlong takes first out setup old frames left whole) → TookSome takes out out' setup along.held old new frames' along.state
+    → IsAlong takes first out' setup new frames' left whole
+along-more takes first out out' setup old new frames frames' left whole along took =
     let more = taken_from setup new.session.stream.greeted (took.behind ++ left) took.outcome.desk in
     record {
       held = took.behind;
@@ -70,17 +71,17 @@ along-more takes first out out' setup old new left whole along took =
     }
 
 -- nothing comes of units once the session ended
-over-stays : (setup : Setup) (held : List ℕ) (desk : DeskView) (state : DeskState) (bytes : List ℕ) (cause : Cause) → StandsWith setup held desk state → desk.session.ended ≡ Some cause
+over-stays : (setup : Setup) (held : List ℕ) (desk : DeskView) (frames : ℕ → PortState) (state : DeskState) (bytes : List ℕ) (cause : Cause) → StandsWith setup held desk frames state → desk.session.ended ≡ Some cause
     → taken_from setup desk.session.stream.greeted bytes state ≡ stays state
-over-stays setup held desk state bytes cause stands over = units-left setup 0 (cut desk.session.stream.greeted bytes).units state cause (stands.ended ∙ over)
+over-stays setup held desk frames state bytes cause stands over = units-left setup 0 (cut desk.session.stream.greeted bytes).units state cause (stands.ended ∙ over)
 
 -- more bytes of the piece were taken up: those that are held and those that are left are the same
-pub along-pushed : {O : Type 0} (takes : O → Post → O → Type 0) (first out : O) (setup : Setup) (desk : DeskView) (session : SessionView) (left taken behind : List ℕ) (whole : StepOutcome)
-    → (along : IsAlong takes first out setup desk left whole) → left ≡ taken ++ behind
+pub along-pushed : {O : Type 0} (takes : O → Post → O → Type 0) (first out : O) (setup : Setup) (desk : DeskView) (session : SessionView) (frames : ℕ → PortState) (left taken behind : List ℕ) (whole : StepOutcome)
+    → (along : IsAlong takes first out setup desk frames left whole) → left ≡ taken ++ behind
     → session ≡ record desk.session { stream = session.stream } → session.stream.greeted ≡ desk.session.stream.greeted
     → (desk.session.ended ≡ None → (rest : List ℕ) → StandsFor desk.session.stream rest → StandsFor session.stream (rest ++ taken))
-    → IsAlong takes first out setup (record desk { session = session }) behind whole
-along-pushed takes first out setup desk session left taken behind whole along split same greeted holds =
+    → IsAlong takes first out setup (record desk { session = session }) frames behind whole
+along-pushed takes first out setup desk session frames left taken behind whole along split same greeted holds =
     let g = desk.session.stream.greeted in
     let bytes : along.held ++ left ≡ (along.held ++ taken) ++ behind = ap (λ l. along.held ++ l) split ∙ sym (append_assoc along.held taken behind) in
     let from : taken_from setup g (along.held ++ left) along.state ≡ taken_from setup session.stream.greeted ((along.held ++ taken) ++ behind) along.state =
@@ -88,7 +89,7 @@ along-pushed takes first out setup desk session left taken behind whole along sp
     record {
       held = along.held ++ taken;
       state = along.state;
-      stands = pushed-with setup along.held (along.held ++ taken) desk session along.state along.stands same greeted (λ going. holds going along.held (along.stands.opened going).stream);
+      stands = pushed-with setup along.held (along.held ++ taken) desk session frames along.state along.stands same greeted (λ going. holds going along.held (along.stands.opened going).stream);
       rest = λ still.
           let going : desk.session.ended ≡ None = sym (ap (λ (s : SessionView). s.ended) same) ∙ still in
           along.rest going ∙ ap (λ bs. (cut g bs).rest) bytes ∙ ap (λ b. (cut b ((along.held ++ taken) ++ behind)).rest) (sym greeted);
@@ -97,16 +98,16 @@ along-pushed takes first out setup desk session left taken behind whole along sp
     }
 
 -- the beginning of a piece
-pub along-first : {O : Type 0} (takes : O → Post → O → Type 0) (out : O) (setup : Setup) (desk : DeskView) (piece : List ℕ) (state : DeskState)
-    → Stands setup desk state → IsAlong takes out out setup desk piece (take_bytes setup 0 piece state)
-along-first takes out setup desk piece state stands = by_end desk.session.ended refl
+pub along-first : {O : Type 0} (takes : O → Post → O → Type 0) (out : O) (setup : Setup) (desk : DeskView) (frames : ℕ → PortState) (piece : List ℕ) (state : DeskState)
+    → Stands setup desk frames state → IsAlong takes out out setup desk frames piece (take_bytes setup 0 piece state)
+along-first takes out setup desk frames piece state stands = by_end desk.session.ended refl
   where
-    by_end : (e : Option Cause) → desk.session.ended ≡ e → IsAlong takes out out setup desk piece (take_bytes setup 0 piece state)
+    by_end : (e : Option Cause) → desk.session.ended ≡ e → IsAlong takes out out setup desk frames piece (take_bytes setup 0 piece state)
     by_end (Some cause) over =
         let held = (session_of 0 state).rest in
         let same : take_bytes setup 0 piece state ≡ taken_from setup desk.session.stream.greeted (held ++ piece) state =
         ap (λ e. bytes_of_open setup 0 piece e state) (stands.with_rest.ended ∙ over)
-        ∙ sym (over-stays setup held desk state (held ++ piece) cause stands.with_rest over) in
+        ∙ sym (over-stays setup held desk frames state (held ++ piece) cause stands.with_rest over) in
         record {
           held = held;
           state = state;
@@ -131,55 +132,55 @@ along-first takes out setup desk piece state stands = by_end desk.session.ended 
         record {
           held = held;
           state = begun;
-          stands = rest-with setup held held c.rest desk state stands.with_rest (λ going. (stands.with_rest.opened going).stream);
+          stands = rest-with setup held held c.rest desk frames state stands.with_rest (λ going. (stands.with_rest.opened going).stream);
           rest = λ _. ap (λ (s : Session). s.rest) (session-put 0 session state there);
           posts = λ end leads. let P : StepOutcome → Type 0 = λ x. Leads takes out (guest_posts x.posts) end in subst P (sym same) leads;
           end_state = ap (λ (x : StepOutcome). x.desk) same;
         }
 
 -- the end of a piece: nothing is left of it, and no whole unit is held
-pub along-all : {O : Type 0} (takes : O → Post → O → Type 0) (first out : O) (setup : Setup) (desk : DeskView) (left : List ℕ) (whole : StepOutcome)
-    → IsAlong takes first out setup desk left whole → left ≡ [] → Settled desk → StepsTo takes first out setup desk whole
-along-all takes first out setup desk left whole along none settled = by_end desk.session.ended refl
+pub along-all : {O : Type 0} (takes : O → Post → O → Type 0) (first out : O) (setup : Setup) (desk : DeskView) (frames : ℕ → PortState) (left : List ℕ) (whole : StepOutcome)
+    → IsAlong takes first out setup desk frames left whole → left ≡ [] → Settled desk → StepsTo takes first out setup desk frames whole
+along-all takes first out setup desk frames left whole along none settled = by_end desk.session.ended refl
   where
-    finish : taken_from setup desk.session.stream.greeted (along.held ++ left) along.state ≡ stays along.state → Stands setup desk along.state → StepsTo takes first out setup desk whole
+    finish : taken_from setup desk.session.stream.greeted (along.held ++ left) along.state ≡ stays along.state → Stands setup desk frames along.state → StepsTo takes first out setup desk frames whole
     finish same stands =
-        let P : DeskState → Type 0 = λ s. Stands setup desk s in
+        let P : DeskState → Type 0 = λ s. Stands setup desk frames s in
         let Q : StepOutcome → Type 0 = λ o. Leads takes out (guest_posts o.posts) out in
         (subst P (sym (along.end_state ∙ ap (λ (o : StepOutcome). o.desk) same)) stands, along.posts out (subst Q (sym same) refl))
 
-    by_end : (e : Option Cause) → desk.session.ended ≡ e → StepsTo takes first out setup desk whole
+    by_end : (e : Option Cause) → desk.session.ended ≡ e → StepsTo takes first out setup desk frames whole
     by_end (Some cause) over =
-        finish (over-stays setup along.held desk along.state (along.held ++ left) cause along.stands over)
-        (record { with_rest = held-over setup along.held (session_of 0 along.state).rest desk along.state cause along.stands over; waits = λ still. cc })
+        finish (over-stays setup along.held desk frames along.state (along.held ++ left) cause along.stands over)
+        (record { with_rest = held-over setup along.held (session_of 0 along.state).rest desk frames along.state cause along.stands over; waits = λ still. cc })
     by_end None going =
         let g = desk.session.stream.greeted in
         let waits : front g along.held ≡ Wait = (settled going).waits along.held (along.stands.opened going).stream in
         let whole_cut : cut g (along.held ++ left) ≡ record { units = []; rest = along.held } =
         ap (λ bs. cut g bs) (ap (λ l. along.held ++ l) none ∙ append-nil along.held) ∙ cut-waits g along.held waits in
         let rest : (session_of 0 along.state).rest ≡ along.held = along.rest going ∙ ap (λ (c : Cut). c.rest) whole_cut in
-        let P : List ℕ → Type 0 = λ h. StandsWith setup h desk along.state in
+        let P : List ℕ → Type 0 = λ h. StandsWith setup h desk frames along.state in
         finish (ap (λ (c : Cut). take_units setup 0 c.units along.state) whole_cut)
         (record { with_rest = subst P (sym rest) along.stands; waits = λ _. ap (front g) rest ∙ waits })
 
 -- ---- the end of a session from outside
 
-pub ended-stays : {O : Type 0} (takes : O → Post → O → Type 0) (out : O) (setup : Setup) (desk : DeskView) (state : DeskState) (input : Input) (cause over : Cause)
-    → Stands setup desk state → desk.session.ended ≡ Some over → StepsTo takes out out setup desk (end_session setup 0 input cause state)
-ended-stays takes out setup desk state input cause over stands is =
+pub ended-stays : {O : Type 0} (takes : O → Post → O → Type 0) (out : O) (setup : Setup) (desk : DeskView) (frames : ℕ → PortState) (state : DeskState) (input : Input) (cause over : Cause)
+    → Stands setup desk frames state → desk.session.ended ≡ Some over → StepsTo takes out out setup desk frames (end_session setup 0 input cause state)
+ended-stays takes out setup desk frames state input cause over stands is =
     let same : end_session setup 0 input cause state ≡ stays state = ap (λ e. end_of_open setup 0 input cause e state) (stands.with_rest.ended ∙ is) in
-    let P : StepOutcome → Type 0 = λ o. StepsTo takes out out setup desk o in
+    let P : StepOutcome → Type 0 = λ o. StepsTo takes out out setup desk frames o in
     subst P (sym same) (stands, refl)
 
-pub ended-now : {O : Type 0} (takes : O → Post → O → Type 0) (out out' : O) (setup : Setup) (old new : DeskView) (state : DeskState) (input : Input) (cause : Cause)
-    → Stands setup old state → old.session.ended ≡ None → new.session.ended ≡ Some cause
-    → ((behind : List ℕ) → StandsWith setup behind new (ends setup 0 input cause state).desk)
+pub ended-now : {O : Type 0} (takes : O → Post → O → Type 0) (out out' : O) (setup : Setup) (old new : DeskView) (frames : ℕ → PortState) (state : DeskState) (input : Input) (cause : Cause)
+    → Stands setup old frames state → old.session.ended ≡ None → new.session.ended ≡ Some cause
+    → ((behind : List ℕ) → StandsWith setup behind new frames (ends setup 0 input cause state).desk)
     → takes out (Ended 0 cause) out'
-    → StepsTo takes out out' setup new (end_session setup 0 input cause state)
-ended-now takes out out' setup old new state input cause stands going over stood told =
+    → StepsTo takes out out' setup new frames (end_session setup 0 input cause state)
+ended-now takes out out' setup old new frames state input cause stands going over stood told =
     let e = ends setup 0 input cause state in
     let same : end_session setup 0 input cause state ≡ e = ap (λ x. end_of_open setup 0 input cause x state) (stands.with_rest.ended ∙ going) in
-    let P : StepOutcome → Type 0 = λ o. StepsTo takes out out' setup new o in
+    let P : StepOutcome → Type 0 = λ o. StepsTo takes out out' setup new frames o in
     subst P (sym same) (record { with_rest = stood (session_of 0 e.desk).rest; waits = λ still. cc }, (out', told, refl))
 
 pub not-some : (o : Option Cause) → is_some o ≡ false → o ≡ None

@@ -13,8 +13,8 @@ use Rattle.desk_laws.specs.Stream as stream
 use Rattle.desk_laws.specs.Stream.{StreamUnit, Word, Stop, Whole, Front, Fault, Takes, front, front_of, head_fault, front_by, Cut, cut, is_greeting}
 use Rattle.desk_laws.specs.Rows.{Row, mine, row_at}
 use Rattle.desk_laws.specs.Layers.{Layers}
-use Rattle.desk_laws.specs.Frames.{counted}
-use Rattle.desk_laws.specs.Effects.{Change, Goes, Greets, Ends, Verdict, verdict, greeting, changed}
+use Rattle.desk_laws.specs.Frames.{PortState, counted}
+use Rattle.desk_laws.specs.Effects.{Effect, Change, Goes, Greets, Ends, Verdict, verdict, greeting, changed, carried_out}
 use Rattle.desk_laws.specs.Following.{ChangesOne, after_row}
 use Rattle.desk_laws.specs.Scene.{Post, replies}
 use Rattle.desk_laws.specs.State.{DeskState, StepOutcome, session_of, stays, step_after}
@@ -31,20 +31,20 @@ use Rattle.guest_session.specs.SessionView.{SessionView, AreRows}
 use Rattle.guest_session.specs.Turns.{HadEffect, window_of}
 use Rattle.desk_core.specs.DeskView.{DeskView}
 use Rattle.desk_core.specs.DeskPosts.{guest_posts}
-use Rattle.desk_core.specs.DeskStands.{StandsWith, LeadsTo}
+use Rattle.desk_core.specs.DeskStands.{StandsWith, LeadsTo, glances_in}
 use Rattle.desk_core.specs.PieceSteps.{TookSome, taken_from}
 use Rattle.desk_core.specs.Stacked.{id_in}
 use Rattle.desk_core.proofs.PostLemmas.{guest-answers}
-use Rattle.desk_core.proofs.StandLemmas.{moved, HadUnit, HadLists, went-stands, went-rest, lists-after}
+use Rattle.desk_core.proofs.StandLemmas.{moved, HadUnit, HadLists, AreCounted, first-frames, unread-with, went-stands, went-rest, lists-after}
 
 -- ---- nothing was taken
 
-pub stays-took : {O : Type 0} (takes : O → Post → O → Type 0) (out : O) (setup : Setup) (held : List ℕ) (desk : DeskView) (state : DeskState)
-    → StandsWith setup held desk state → TookSome takes out out setup held desk desk state
-stays-took takes out setup held desk state stands = record {
+pub stays-took : {O : Type 0} (takes : O → Post → O → Type 0) (out : O) (setup : Setup) (held : List ℕ) (desk : DeskView) (frames frames' : ℕ → PortState) (state : DeskState)
+    → StandsWith setup held desk frames state → frames' 0 ≡ frames 0 → TookSome takes out out setup held desk desk frames' state
+stays-took takes out setup held desk frames frames' state stands unread = record {
   behind = held;
   outcome = stays state;
-  leads = (stands, refl);
+  leads = (unread-with setup held desk frames frames' state stands unread, refl);
   all = λ left. refl;
   going = λ going. going;
   rest = λ going left. refl;
@@ -54,9 +54,9 @@ stays-took takes out setup held desk state stands = record {
 -- ---- a unit that ended nothing
 
 -- the session's verdict on a unit is that of the definitions
-pub verdict-same : (setup : Setup) (held : List ℕ) (desk : DeskView) (state : DeskState) (unit : StreamUnit) → StandsWith setup held desk state → desk.session.ended ≡ None
+pub verdict-same : (setup : Setup) (held : List ℕ) (desk : DeskView) (frames : ℕ → PortState) (state : DeskState) (unit : StreamUnit) → StandsWith setup held desk frames state → desk.session.ended ≡ None
     → verdict (sizes_of setup) 0 (session_of 0 state).minor (mine 0 state.scene.rows) unit ≡ verdict desk.session.sizes desk.session.guest desk.session.minor desk.session.rows unit
-verdict-same setup held desk state unit stands going =
+verdict-same setup held desk frames state unit stands going =
     let s = desk.session in
     ap (λ rows. verdict (sizes_of setup) 0 (session_of 0 state).minor rows unit) (ap (mine 0) stands.rows ∙ mine-whole 0 s.rows stands.own.own)
     ∙ ap (λ minor. verdict (sizes_of setup) 0 minor s.rows unit) (stands.opened going).minor
@@ -64,11 +64,11 @@ verdict-same setup held desk state unit stands going =
     ∙ ap (λ sizes. verdict sizes s.guest s.minor s.rows unit) (sym stands.numbers.sizes)
 
 -- a unit taken off the front of the bytes that are held
-pub unit-took : {O : Type 0} (takes : O → Post → O → Type 0) (out out' : O) (setup : Setup) (held behind : List ℕ) (old new : DeskView) (state : DeskState) (unit : StreamUnit)
+pub unit-took : {O : Type 0} (takes : O → Post → O → Type 0) (out out' : O) (setup : Setup) (held behind : List ℕ) (old new : DeskView) (frames' : ℕ → PortState) (state : DeskState) (unit : StreamUnit)
     → old.session.ended ≡ None → front old.session.stream.greeted held ≡ Takes unit behind → new.session.stream.greeted ≡ true
-    → LeadsTo takes out out' setup behind new (take_unit setup 0 unit state) → (session_of 0 (take_unit setup 0 unit state).desk).rest ≡ (session_of 0 state).rest
-    → TookSome takes out out' setup held old new state
-unit-took takes out out' setup held behind old new state unit going is greeted leads kept =
+    → LeadsTo takes out out' setup behind new frames' (take_unit setup 0 unit state) → (session_of 0 (take_unit setup 0 unit state).desk).rest ≡ (session_of 0 state).rest
+    → TookSome takes out out' setup held old new frames' state
+unit-took takes out out' setup held behind old new frames' state unit going is greeted leads kept =
     let o = take_unit setup 0 unit state in
     let cuts : (left : List ℕ) → cut old.session.stream.greeted (held ++ left) ≡ stream.unit_and unit (cut true (behind ++ left)) =
     λ left. cut-takes old.session.stream.greeted (held ++ left) unit (behind ++ left) (front_by-append head_fault old.session.stream.greeted held left unit behind is) in
@@ -84,25 +84,36 @@ unit-took takes out out' setup held behind old new state unit going is greeted l
       kept = λ _. kept;
     }
 
+-- the session's effect is that of the definitions
+effect-same : (setup : Setup) (held : List ℕ) (desk : DeskView) (frames : ℕ → PortState) (state : DeskState) (v : Verdict) → StandsWith setup held desk frames state → desk.session.ended ≡ None
+    → effect_of 0 state v ≡ carried_out desk.session.guest desk.session.minor desk.session.rows (frames desk.session.guest) v
+effect-same setup held desk frames state v stands going =
+    let s = desk.session in
+    ap (λ minor. carried_out 0 minor state.scene.rows (session_of 0 state).port v) (stands.opened going).minor
+    ∙ ap (λ rows. carried_out 0 s.minor rows (session_of 0 state).port v) stands.rows
+    ∙ ap (λ port. carried_out 0 s.minor s.rows port v) (first-frames setup held desk frames state stands)
+    ∙ ap (λ guest. carried_out guest s.minor s.rows (frames guest) v) (sym stands.guest)
+
 -- a unit that went, with this verdict
-pub went-took : {O : Type 0} (takes : O → Post → O → Type 0) (out out' : O) (setup : Setup) (held behind : List ℕ) (desk : DeskView) (new : SessionView) (layers : Layers) (messages : ℕ) (state : DeskState) (unit : StreamUnit) (v : Verdict) (answers : List (List ℕ))
-    → StandsWith setup held desk state → desk.session.ended ≡ None → front desk.session.stream.greeted held ≡ Takes unit behind
+pub went-took : {O : Type 0} (takes : O → Post → O → Type 0) (out out' : O) (setup : Setup) (held behind : List ℕ) (desk : DeskView) (new : SessionView) (layers : Layers) (messages glances : ℕ) (frames frames' : ℕ → PortState) (state : DeskState) (unit : StreamUnit) (v : Verdict) (answers : List (List ℕ))
+    → StandsWith setup held desk frames state → desk.session.ended ≡ None → front desk.session.stream.greeted held ≡ Takes unit behind
     → verdict desk.session.sizes desk.session.guest desk.session.minor desk.session.rows unit ≡ v
     → (effect_of 0 state v).cause ≡ None → (effect_of 0 state v).answers ≡ answers
-    → HadUnit unit (effect_of 0 state v) desk.session new behind → HadLists new.rows desk.layers layers
-    → messages ≡ counted (desk.messages + messages_of unit) → new.stream.greeted ≡ true → Leads takes out (replies 0 answers) out'
-    → TookSome takes out out' setup held desk (moved new layers messages desk) state
-went-took takes out out' setup held behind desk new layers messages state unit v answers stands going is v_is none answered had lists count greeted told =
+    → HadUnit unit (effect_of 0 state v) desk.session new (frames' 0) behind → HadLists new.rows desk.layers layers
+    → AreCounted unit (effect_of 0 state v) desk messages glances → new.stream.greeted ≡ true → Leads takes out (replies 0 answers) out'
+    → TookSome takes out out' setup held desk (moved new layers messages glances desk) frames' state
+went-took takes out out' setup held behind desk new layers messages glances frames frames' state unit v answers stands going is v_is none answered had lists counts greeted told =
     let e = effect_of 0 state v in
+    let last = moved new layers messages glances desk in
     let taken : take_unit setup 0 unit state ≡ went setup 0 unit e state =
-    taken-by setup 0 unit state v (stands.ended ∙ going) (verdict-same setup held desk state unit stands going ∙ v_is)
+    taken-by setup 0 unit state v (stands.ended ∙ going) (verdict-same setup held desk frames state unit stands going ∙ v_is)
     ∙ ap (λ c. unit_done setup 0 unit e c state) none in
-    let P : StepOutcome → Type 0 = λ o. LeadsTo takes out out' setup behind (moved new layers messages desk) o in
+    let P : StepOutcome → Type 0 = λ o. LeadsTo takes out out' setup behind last frames' o in
     let Q : List (List ℕ) → Type 0 = λ xs. Leads takes out (guest_posts (replies 0 xs ++ [])) out' in
     let R : List Post → Type 0 = λ ps. Leads takes out ps out' in
-    unit-took takes out out' setup held behind desk (moved new layers messages desk) state unit going is greeted
-    (subst P (sym taken) (went-stands setup held behind desk new layers messages state unit e stands going had lists count, subst Q (sym answered) (subst R (sym (guest-answers answers)) told)))
-    (ap (λ (o : StepOutcome). (session_of 0 o.desk).rest) taken ∙ went-rest setup held desk state unit e stands)
+    unit-took takes out out' setup held behind desk last frames' state unit going is greeted
+    (subst P (sym taken) (went-stands setup held behind desk new layers messages glances frames frames' state unit e stands going had lists counts, subst Q (sym answered) (subst R (sym (guest-answers answers)) told)))
+    (ap (λ (o : StepOutcome). (session_of 0 o.desk).rest) taken ∙ went-rest setup held desk frames state unit e stands)
 
 -- a unit with this verdict changes the row of its own window alone
 pub changes-one : (sizes : Sizes) (guest minor : ℕ) (own : List Row) (unit : StreamUnit) (change : Change) (answers : List (List ℕ))
@@ -134,41 +145,58 @@ counted-unit true held behind unit is =
     let h : 12 ≤ length held = takes-whole_header head_fault held unit behind is in
     of-whole (head_fault (header_at held)) (header_at held) (drop 12 held) unit behind (sym (front_by-whole_header head_fault held h) ∙ is)
 
--- a unit whose effect the session had
-pub effect-took : {O : Type 0} (takes : O → Post → O → Type 0) (out out' : O) (setup : Setup) (held behind : List ℕ) (desk : DeskView) (new : SessionView) (window : ℕ) (drawn : Option Rect) (layers : Layers) (messages : ℕ) (state : DeskState)
-    (unit : StreamUnit) (v : Verdict) (minor : ℕ) (rows : List Row) (answers : List (List ℕ)) (change : Change)
-    → StandsWith setup held desk state → desk.session.ended ≡ None → front desk.session.stream.greeted held ≡ Takes unit behind
-    → HadEffect takes out out' desk.session new (turns.Changed window drawn) (window_of unit) minor rows answers behind
+-- the window that a turn tells
+abbrev window_in : Turn → ℕ
+window_in turns.Wait = 0
+window_in (turns.Changed window drawn) = window
+window_in turns.ClipWhole = 0
+window_in turns.ClipOver = 0
+window_in (turns.Ended cause) = 0
+
+-- the area that a turn tells
+abbrev drawn_in : Turn → Option Rect
+drawn_in turns.Wait = None
+drawn_in (turns.Changed window drawn) = drawn
+drawn_in turns.ClipWhole = None
+drawn_in turns.ClipOver = None
+drawn_in (turns.Ended cause) = None
+
+-- a unit whose effect the session had, where this was read
+pub effect-took : {O : Type 0} (takes : O → Post → O → Type 0) (out out' : O) (setup : Setup) (held behind : List ℕ) (desk : DeskView) (new : SessionView) (window : ℕ) (drawn read : Option Rect) (layers : Layers) (messages glances : ℕ) (frames frames' : ℕ → PortState) (state : DeskState)
+    (unit : StreamUnit) (v : Verdict) (e : Effect) (change : Change)
+    → StandsWith setup held desk frames state → desk.session.ended ≡ None → front desk.session.stream.greeted held ≡ Takes unit behind
+    → HadEffect takes out out' (frames' desk.session.guest) desk.session new (turns.Changed window drawn) (window_of unit) read e behind
     → verdict desk.session.sizes desk.session.guest desk.session.minor desk.session.rows unit ≡ v
-    → (effect_of 0 state v).cause ≡ None → (effect_of 0 state v).answers ≡ answers → (effect_of 0 state v).readings ≡ []
-    → (effect_of 0 state v).minor ≡ minor → (effect_of 0 state v).rows ≡ rows → rows ≡ changed 0 change desk.session.rows
+    → carried_out desk.session.guest desk.session.minor desk.session.rows (frames desk.session.guest) v ≡ e
+    → e.cause ≡ None → e.rows ≡ changed desk.session.guest change desk.session.rows → length e.readings ≡ glances_in read
     → ChangesOne (window_of unit) desk.session.rows change
     → AreRows 0 new.rows → layers ≡ after_row (id_in window) (row_at (id_in window) new.rows) desk.layers
-    → messages ≡ counted (desk.messages + (if desk.session.stream.greeted then 1 else 0))
-    → TookSome takes out out' setup held desk (moved new layers messages desk) state
-effect-took takes out out' setup held behind desk new window drawn layers messages state unit v minor rows answers change stands going is had v_is none answered unread minor_is rows_is changed_is one own made count =
-    let same : window ≡ window_of unit = ap window_in had.answer in
-    let one' : ChangesOne window desk.session.rows change = let P : ℕ → Type 0 = λ w. ChangesOne w desk.session.rows change in subst P (sym same) one in
-    let new_rows : new.rows ≡ rows = ap (λ (s : SessionView). s.rows) had.session in
-    let T : ℕ → Type 0 = λ g. Leads takes out (replies g answers) out' in
-    let counted_is : messages ≡ counted (desk.messages + messages_of unit) = count ∙ ap (λ n. counted (desk.messages + n)) (counted-unit desk.session.stream.greeted held behind unit is) in
-    went-took takes out out' setup held behind desk new layers messages state unit v answers stands going is v_is none answered
+    → messages ≡ counted (desk.messages + (if desk.session.stream.greeted then 1 else 0)) → glances ≡ counted (desk.glances + glances_in drawn)
+    → TookSome takes out out' setup held desk (moved new layers messages glances desk) frames' state
+effect-took takes out out' setup held behind desk new window drawn read layers messages glances frames frames' state unit v e change stands going is had v_is e_is none rows_is many one own made count seen =
+    let s = desk.session in
+    let same : effect_of 0 state v ≡ e = effect-same setup held desk frames state v stands going ∙ e_is in
+    let alone : window ≡ window_of unit = ap window_in had.answer in
+    let one' : ChangesOne window s.rows change = let P : ℕ → Type 0 = λ w. ChangesOne w s.rows change in subst P (sym alone) one in
+    let new_rows : new.rows ≡ e.rows = ap (λ (x : SessionView). x.rows) had.session in
+    let T : ℕ → Type 0 = λ g. Leads takes out (replies g e.answers) out' in
+    let looked : glances_in drawn ≡ length (effect_of 0 state v).readings =
+    ap glances_in (ap drawn_in had.answer) ∙ sym many ∙ ap (λ (x : Effect). length x.readings) (sym same) in
+    went-took takes out out' setup held behind desk new layers messages glances frames frames' state unit v e.answers stands going is v_is
+    (ap (λ (x : Effect). x.cause) same ∙ none) (ap (λ (x : Effect). x.answers) same)
     (record {
-      rows = rows_is ∙ sym new_rows;
-      minor = minor_is ∙ sym (ap (λ (s : SessionView). s.minor) had.session);
-      readings = unread;
-      greeted = front-greets desk.session.stream.greeted held unit behind is ∙ sym had.greeted;
+      rows = ap (λ (x : Effect). x.rows) same ∙ sym new_rows;
+      minor = ap (λ (x : Effect). x.minor) same ∙ sym (ap (λ (x : SessionView). x.minor) had.session);
+      port = ap (λ (x : Effect). x.port) same ∙ sym had.frames ∙ ap frames' stands.guest;
+      greeted = front-greets s.stream.greeted held unit behind is ∙ sym had.greeted;
       stands = had.stands;
-      guest = ap (λ (s : SessionView). s.guest) had.session;
-      sizes = ap (λ (s : SessionView). s.sizes) had.session;
-      ended = ap (λ (s : SessionView). s.ended) had.session ∙ going;
+      guest = ap (λ (x : SessionView). x.guest) had.session;
+      sizes = ap (λ (x : SessionView). x.sizes) had.session;
+      ended = ap (λ (x : SessionView). x.ended) had.session ∙ going;
     })
-    (lists-after desk.session.rows new.rows desk.layers layers window change stands.own own (new_rows ∙ changed_is) stands.followed one' made)
-    counted_is had.greeted (subst T stands.guest had.told)
-  where
-    window_in : Turn → ℕ
-    window_in turns.Wait = 0
-    window_in (turns.Changed w d) = w
-    window_in turns.ClipWhole = 0
-    window_in turns.ClipOver = 0
-    window_in (turns.Ended cause) = 0
+    (lists-after s.rows new.rows desk.layers layers window change stands.own own (new_rows ∙ rows_is ∙ ap (λ g. changed g change s.rows) stands.guest) stands.followed one' made)
+    (record {
+      told = count ∙ ap (λ n. counted (desk.messages + n)) (counted-unit s.stream.greeted held behind unit is);
+      read = seen ∙ ap (λ n. counted (desk.glances + n)) looked;
+    })
+    had.greeted (subst T stands.guest had.told)

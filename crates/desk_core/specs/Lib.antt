@@ -1,6 +1,7 @@
 pub mod PictureView
 pub mod Painting
 pub mod Drawing
+pub mod Parts
 pub mod DeskPosts
 pub mod DeskView
 pub mod DeskStands

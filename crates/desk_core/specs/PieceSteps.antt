@@ -2,6 +2,7 @@
 use Rattle.std.specs.Prelude.{◌≡◌, ℕ, ◌+◌, Bool, None, List, ◌++◌, length, take}
 use Rattle.desk_laws.specs.declared.setup.Setup.{Setup}
 use Rattle.desk_laws.specs.Stream.{cut, front, Wait}
+use Rattle.desk_laws.specs.Frames.{PortState}
 use Rattle.desk_laws.specs.Scene.{Post}
 use Rattle.desk_laws.specs.State.{DeskState, StepOutcome, session_of, step_after}
 use Rattle.desk_laws.specs.Steps.{take_units}
@@ -20,11 +21,12 @@ abbrev pub held_by : DeskView → ℕ
 held_by desk = length desk.session.stream.held + desk.session.stream.skipped
 
 -- some units, or none, were taken off the bytes that a desk held, where `left` bytes may be still to
--- come: what comes of all of them is what came of these, and then what comes of those behind them
-pub record TookSome {O : Type 0} (takes : O → Post → O → Type 0) (out out' : O) (setup : Setup) (held : List ℕ) (old new : DeskView) (state : DeskState) : Type 0 where
+-- come, and these are the frames after that: what comes of all of them is what came of these, and then
+-- what comes of those behind them
+pub record TookSome {O : Type 0} (takes : O → Post → O → Type 0) (out out' : O) (setup : Setup) (held : List ℕ) (old new : DeskView) (frames : ℕ → PortState) (state : DeskState) : Type 0 where
   pub behind : List ℕ
   pub outcome : StepOutcome
-  pub leads : LeadsTo takes out out' setup behind new outcome
+  pub leads : LeadsTo takes out out' setup behind new frames outcome
   pub all : (left : List ℕ)
       → taken_from setup old.session.stream.greeted (held ++ left) state
       ≡ step_after outcome (taken_from setup new.session.stream.greeted (behind ++ left) outcome.desk)
@@ -51,10 +53,10 @@ pub record PushesPiece (old new : DeskView) (piece : List ℕ) (size : ℕ) : Ty
 
 -- where the taking of a piece stands after some units: what is still to come of the bytes that are held
 -- and of those that are left leads to what comes of the whole piece
-pub record IsAlong {O : Type 0} (takes : O → Post → O → Type 0) (first out : O) (setup : Setup) (desk : DeskView) (left : List ℕ) (whole : StepOutcome) : Type 0 where
+pub record IsAlong {O : Type 0} (takes : O → Post → O → Type 0) (first out : O) (setup : Setup) (desk : DeskView) (frames : ℕ → PortState) (left : List ℕ) (whole : StepOutcome) : Type 0 where
   pub held : List ℕ
   pub state : DeskState
-  pub stands : StandsWith setup held desk state
+  pub stands : StandsWith setup held desk frames state
   pub rest : desk.session.ended ≡ None → (session_of 0 state).rest ≡ (cut desk.session.stream.greeted (held ++ left)).rest
   pub posts : (end : O) → Leads takes out (guest_posts (taken_from setup desk.session.stream.greeted (held ++ left) state).posts) end → Leads takes first (guest_posts whole.posts) end
   pub end_state : whole.desk ≡ (taken_from setup desk.session.stream.greeted (held ++ left) state).desk

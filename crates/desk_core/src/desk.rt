@@ -2,15 +2,16 @@
 ghost use Rattle.std.specs.Prelude.{◌≡◌, ℕ, ◌<◌, ◌≤◌, ◌+◌, ◌*◌, List, length, IfOk, IsTrue, false, true, if◌then◌else◌};
 ghost use Rattle.desk_laws.specs.declared.setup.Setup.{Setup};
 ghost use Rattle.desk_laws.specs.Rules.{first_broken};
-ghost use Rattle.desk_laws.specs.Items.{FitsItem};
-ghost use Rattle.desk_laws.specs.Frames.{counted};
+ghost use Rattle.desk_laws.specs.Items.{FitsItem, IsChange};
+ghost use Rattle.desk_laws.specs.Frames.{PortState, counted};
 ghost use Rattle.desk_laws.specs.Picture.{picture};
 ghost use Rattle.desk_laws.specs.Scene.{Input};
 ghost use Rattle.desk_laws.specs.State.{DeskState, opening};
-ghost use Rattle.desk_laws.specs.Steps.{step, take_bytes, end_session};
+ghost use Rattle.desk_laws.specs.Steps.{step, take_bytes, take_store, end_session};
 ghost use Rattle.io_ports.specs.Posts.{Leads};
 ghost use Rattle.desk_core.specs.DeskPosts.{guest_posts};
-ghost use Rattle.desk_core.specs.DeskStands.{Stands, StandsWith, StepsTo, picture_of, pages_of, item_counted, stepped_of, summary_of};
+ghost use Rattle.frame_pool.specs.Ports.{AreZeros};
+ghost use Rattle.desk_core.specs.DeskStands.{Stands, StandsWith, StepsTo, StoresTo, picture_of, pages_of, glances_in, item_counted, stepped_of, summary_of};
 ghost use Rattle.desk_core.specs.PieceSteps.{TookSome, Settled, PushesPiece, held_by};
 ghost use Rattle.desk_core.specs.Painting.{painted_after};
 
@@ -18,8 +19,9 @@ use crate::draw::draw_stack;
 use crate::picture::Picture;
 use crate::stack::{follow, layer_of};
 use desk_laws::{Cause, Item, Setup};
+use frame_pool::FramePort;
 use guest_session::{Session, Turn};
-use gui_num::{Colour, NoMemory};
+use gui_num::{Colour, NoMemory, Rect, area};
 use io_ports::Outlet;
 use stacking::Stacking;
 use std::alloc::Global;
@@ -50,7 +52,7 @@ pub struct Summary {
 }
 
 /// A desktop with one guest. It takes the items of its input one after the other, answers the guest,
-/// and keeps a picture of what it shows.
+/// reads the guest's frames where it says that they changed, and keeps a picture of what it shows.
 #[derive(Drop)]
 pub struct Desk {
     border: u32,
@@ -62,6 +64,7 @@ pub struct Desk {
     greeted: bool,
     items: u64,
     messages: u64,
+    glances: u64,
     picture: Picture,
 }
 
@@ -71,9 +74,9 @@ impl Model for Desk {
 
     ghost Value = { DeskView };
 
-    ghost view = { λ d. record { border = d.border; background = d.background.0; label = d.label.0; session = d.session; layers = d.stack.layers; items = d.items; messages = d.messages; picture = d.picture } };
+    ghost view = { λ d. record { border = d.border; background = d.background.0; label = d.label.0; session = d.session; layers = d.stack.layers; items = d.items; messages = d.messages; glances = d.glances; picture = d.picture } };
 
-    ghost invariant = { λ d. IsKept d.greeted d.stack.rows (record { border = d.border; background = d.background.0; label = d.label.0; session = d.session; layers = d.stack.layers; items = d.items; messages = d.messages; picture = d.picture }) };
+    ghost invariant = { λ d. IsKept d.greeted d.stack.rows (record { border = d.border; background = d.background.0; label = d.label.0; session = d.session; layers = d.stack.layers; items = d.items; messages = d.messages; glances = d.glances; picture = d.picture }) };
 }
 
 // A count, and one more where something counts.
@@ -83,12 +86,23 @@ fn count_if(count: u64, counts: bool) -> u64
     count.saturating_add(u64::from(counts))
 }
 
+// A count of words, and those of an area that was read, one for each pixel.
+fn count_read(count: u64, drawn: Option<Rect>) -> u64
+    ensures { result ≡ counted (count + glances_in drawn) }
+{
+    match drawn {
+        Some(read) => count.saturating_add(area(read)),
+        None => count,
+    }
+}
+
 impl Desk {
     /// The desktop of a setup that keeps its rules, before any item. `NoMemory` where there is none
     /// for the session, the stack and the picture; later nothing takes memory.
     pub fn open(alloc: Global, setup: &Setup) -> Result<Desk, NoMemory>
         requires { first_broken setup.now ≡ None }
-        ensures stands { IfOk result (λ d. Stands setup.now d (opening setup.now)) }
+        ensures stands { IfOk result (λ d. (frames : ℕ → PortState) → AreZeros (length setup.now.guests) setup.now.pages frames → Stands setup.now d frames (opening setup.now)) }
+        ensures pages { IfOk result (λ d. pages_of d ≡ setup.now.pages) }
         ensures fresh { IfOk result (λ d. (picture_of d).painted ≡ 0) }
     {
         let guests = setup.guests.items();
@@ -102,24 +116,31 @@ impl Desk {
             greeted: false,
             items: 0,
             messages: 0,
+            glances: 0,
             picture: Picture::new(alloc, setup.width, setup.height, setup.background)?,
         })
     }
 
     // Lets the session take one unit off the bytes that it holds, and the stack follow it. Answers
     // whether there was one, and the session hasn't ended.
-    fn take_turn<O: Outlet>(&mut self, out: &mut O) -> bool
-        ensures took { (setup : Setup) (held : List ℕ) (state : DeskState) → StandsWith setup held self.old state → TookSome O.takes out.old out.new setup held self.old self.new state }
+    fn take_turn<P: FramePort, O: Outlet>(&mut self, port: &mut P, out: &mut O) -> bool
+        requires guests { P.guests port.old ≡ 1 }
+        requires pages { P.pages port.old ≡ pages_of self.old }
+        ensures took { (setup : Setup) (held : List ℕ) (state : DeskState) → StandsWith setup held self.old (P.state port.old) state → TookSome O.takes out.old out.new setup held self.old self.new (P.state port.new) state }
         ensures fewer { IsTrue result → held_by self.new < held_by self.old }
         ensures settled { result ≡ false → Settled self.new }
         ensures kept { self.new.picture ≡ self.old.picture }
+        ensures same_pages { pages_of self.new ≡ pages_of self.old }
+        ensures port_guests { P.guests port.new ≡ P.guests port.old }
+        ensures port_pages { P.pages port.new ≡ P.pages port.old }
     {
-        match self.session.turn(out) {
+        match self.session.turn(port, out) {
             Turn::Wait => false,
-            Turn::Changed { window, .. } => {
+            Turn::Changed { window, drawn } => {
                 let layer = layer_of(&self.session, window);
                 follow(&mut self.stack, window, layer);
                 self.messages = count_if(self.messages, self.greeted);
+                self.glances = count_read(self.glances, drawn);
                 self.greeted = true;
                 true
             }
@@ -137,12 +158,17 @@ impl Desk {
     }
 
     // Takes all whole units off the bytes that are held, until one ends the session.
-    fn take_units<O: Outlet>(&mut self, out: &mut O)
-        ensures took { (setup : Setup) (held : List ℕ) (state : DeskState) → StandsWith setup held self.old state → TookSome O.takes out.old out.new setup held self.old self.new state }
+    fn take_units<P: FramePort, O: Outlet>(&mut self, port: &mut P, out: &mut O)
+        requires guests { P.guests port.old ≡ 1 }
+        requires pages { P.pages port.old ≡ pages_of self.old }
+        ensures took { (setup : Setup) (held : List ℕ) (state : DeskState) → StandsWith setup held self.old (P.state port.old) state → TookSome O.takes out.old out.new setup held self.old self.new (P.state port.new) state }
         ensures settled { Settled self.new }
         ensures kept { self.new.picture ≡ self.old.picture }
+        ensures same_pages { pages_of self.new ≡ pages_of self.old }
+        ensures port_guests { P.guests port.new ≡ P.guests port.old }
+        ensures port_pages { P.pages port.new ≡ P.pages port.old }
     {
-        while self.take_turn(out) {}
+        while self.take_turn(port, out) {}
     }
 
     // Takes up as much of a piece as there is room for, and answers how much.
@@ -151,29 +177,36 @@ impl Desk {
         ensures some { Settled self.old → 0 < length piece.now → 0 < result }
         ensures pushed { PushesPiece self.old self.new piece.now result }
         ensures kept { self.new.picture ≡ self.old.picture }
+        ensures same_pages { pages_of self.new ≡ pages_of self.old }
     {
         self.session.push(piece)
     }
 
     // Takes a piece of the guest's bytes, however it is cut.
-    fn take_piece<O: Outlet>(&mut self, piece: &[u8], out: &mut O)
-        ensures took { (setup : Setup) (state : DeskState) → Stands setup self.old state → StepsTo O.takes out.old out.new setup self.new (take_bytes setup 0 piece.now state) }
+    fn take_piece<P: FramePort, O: Outlet>(&mut self, piece: &[u8], port: &mut P, out: &mut O)
+        requires guests { P.guests port.old ≡ 1 }
+        requires pages { P.pages port.old ≡ pages_of self.old }
+        ensures took { (setup : Setup) (state : DeskState) → Stands setup self.old (P.state port.old) state → StepsTo O.takes out.old out.new setup self.new (P.state port.new) (take_bytes setup 0 piece.now state) }
         ensures kept { self.new.picture ≡ self.old.picture }
+        ensures same_pages { pages_of self.new ≡ pages_of self.old }
+        ensures port_guests { P.guests port.new ≡ P.guests port.old }
+        ensures port_pages { P.pages port.new ≡ P.pages port.old }
     {
-        self.take_units(out);
+        self.take_units(port, out);
         let mut left = piece;
         while !left.is_empty() {
             let size = self.push(left);
             left = &left[size..];
-            self.take_units(out);
+            self.take_units(port, out);
         }
     }
 
     // Ends the session from outside, unless it has ended: the guest is told why, and its windows are
     // gone.
     fn end<O: Outlet>(&mut self, cause: Cause, out: &mut O)
-        ensures took { (setup : Setup) (input : Input) (state : DeskState) → Stands setup self.old state → StepsTo O.takes out.old out.new setup self.new (end_session setup 0 input cause state) }
+        ensures took { (setup : Setup) (frames : ℕ → PortState) (input : Input) (state : DeskState) → Stands setup self.old frames state → StepsTo O.takes out.old out.new setup self.new frames (end_session setup 0 input cause state) }
         ensures kept { self.new.picture ≡ self.old.picture }
+        ensures same_pages { pages_of self.new ≡ pages_of self.old }
     {
         if self.session.ended().is_some() {
             return;
@@ -181,6 +214,29 @@ impl Desk {
         self.session.end(cause);
         self.stack.leave_guest(0);
         out.ended(0, cause);
+    }
+
+    // Takes a change of a guest's frames, unless its session has ended.
+    fn take_store<P: FramePort>(
+        &self,
+        guest: u32,
+        delay: u16,
+        page: u32,
+        offset: u32,
+        piece: &[u8],
+        port: &mut P,
+    )
+        requires guests { P.guests port.old ≡ 1 }
+        requires pages { P.pages port.old ≡ pages_of self.now }
+        requires guest { guest < 1 }
+        requires change { IsChange page offset (length piece.now) (pages_of self.now) }
+        ensures took { (setup : Setup) (state : DeskState) → Stands setup self.now (P.state port.old) state → StoresTo setup self.now (P.state port.new) (take_store guest delay page offset piece.now state) }
+        ensures port_guests { P.guests port.new ≡ P.guests port.old }
+        ensures port_pages { P.pages port.new ≡ P.pages port.old }
+    {
+        if self.session.ended().is_none() {
+            port.store(guest, delay, page, offset, piece);
+        }
     }
 
     // Counts an item.
@@ -195,7 +251,7 @@ impl Desk {
         ensures desk { self.new ≡ record self.old { picture = self.new.picture } }
         ensures sides { (self.new.picture.width ≡ self.old.picture.width) × (self.new.picture.height ≡ self.old.picture.height) }
         ensures painted { self.new.picture.painted ≡ counted (self.old.picture.painted + self.old.picture.width * self.old.picture.height) }
-        ensures pixels { (setup : Setup) (state : DeskState) → Stands setup self.old state → self.new.picture.pixels ≡ picture setup state.scene.rows state.scene.layers }
+        ensures pixels { (setup : Setup) (frames : ℕ → PortState) (state : DeskState) → Stands setup self.old frames state → self.new.picture.pixels ≡ picture setup state.scene.rows state.scene.layers }
     {
         self.picture.begin(self.background);
         draw_stack(
@@ -207,21 +263,34 @@ impl Desk {
         );
     }
 
-    /// Takes one item of the input with its piece: the bytes of a guest, cut in any way, else none. It
-    /// answers what it did: the picture is drawn anew exactly at Snap, and the input ended exactly at
-    /// End. The guest is told through the outlet what the item led to.
-    pub fn step<O: Outlet>(&mut self, item: &Item, piece: &[u8], out: &mut O) -> Stepped
+    /// Takes one item of the input with its piece: the bytes of a guest, cut in any way, or those of a
+    /// change of its frames, else none. It answers what it did: the picture is drawn anew exactly at
+    /// Snap, and the input ended exactly at End. The guest is told through the outlet what the item led
+    /// to. Of the port the guest's frames are read where the guest says that they changed, and changed
+    /// at Store, unless its session has ended.
+    pub fn step<P: FramePort, O: Outlet>(
+        &mut self,
+        item: &Item,
+        piece: &[u8],
+        port: &mut P,
+        out: &mut O,
+    ) -> Stepped
         requires range { FitsItem 1 (pages_of self.old) item.now (length piece.now) }
-        ensures stands { (setup : Setup) (state : DeskState) → Stands setup self.old state → Stands setup self.new (step setup item.now piece.now state).desk }
-        ensures posts { (setup : Setup) (state : DeskState) → Stands setup self.old state → Leads O.takes out.old (guest_posts (step setup item.now piece.now state).posts) out.new }
-        ensures drawn { item.now ≡ Item.Snap → (setup : Setup) (state : DeskState) → Stands setup self.old state → (picture_of self.new).pixels ≡ picture setup state.scene.rows state.scene.layers }
-        ensures painted { (setup : Setup) (state : DeskState) → Stands setup self.old state → (picture_of self.new).painted ≡ painted_after setup item.now (picture_of self.old).painted }
+        requires guests { P.guests port.old ≡ 1 }
+        requires pages { P.pages port.old ≡ pages_of self.old }
+        ensures stands { (setup : Setup) (state : DeskState) → Stands setup self.old (P.state port.old) state → Stands setup self.new (P.state port.new) (step setup item.now piece.now state).desk }
+        ensures posts { (setup : Setup) (state : DeskState) → Stands setup self.old (P.state port.old) state → Leads O.takes out.old (guest_posts (step setup item.now piece.now state).posts) out.new }
+        ensures drawn { item.now ≡ Item.Snap → (setup : Setup) (state : DeskState) → Stands setup self.old (P.state port.old) state → (picture_of self.new).pixels ≡ picture setup state.scene.rows state.scene.layers }
+        ensures painted { (setup : Setup) (state : DeskState) → Stands setup self.old (P.state port.old) state → (picture_of self.new).painted ≡ painted_after setup item.now (picture_of self.old).painted }
         ensures answer { result ≡ stepped_of item.now }
+        ensures same_pages { pages_of self.new ≡ pages_of self.old }
+        ensures port_guests { P.guests port.new ≡ P.guests port.old }
+        ensures port_pages { P.pages port.new ≡ P.pages port.old }
     {
         match *item {
             Item::Bytes { .. } => {
                 self.count_item();
-                self.take_piece(piece, out);
+                self.take_piece(piece, port, out);
                 Stepped::Going
             }
             Item::Closed { .. } => {
@@ -232,6 +301,16 @@ impl Desk {
             Item::Lost { .. } => {
                 self.count_item();
                 self.end(Cause::LinkFailed { a: 0, b: 0 }, out);
+                Stepped::Going
+            }
+            Item::Store {
+                guest,
+                delay,
+                page,
+                offset,
+            } => {
+                self.count_item();
+                self.take_store(guest, delay, page, offset, piece, port);
                 Stepped::Going
             }
             Item::Snap => {
@@ -257,12 +336,12 @@ impl Desk {
     /// How much there was so far.
     pub fn summary(&self) -> Summary
         ensures is { result ≡ summary_of self.now }
-        ensures counts { (setup : Setup) (state : DeskState) → Stands setup self.now state → result ≡ record { items = state.counts.items; messages = state.counts.messages; glances = state.counts.glances; painted = (picture_of self.now).painted } }
+        ensures counts { (setup : Setup) (frames : ℕ → PortState) (state : DeskState) → Stands setup self.now frames state → result ≡ record { items = state.counts.items; messages = state.counts.messages; glances = state.counts.glances; painted = (picture_of self.now).painted } }
     {
         Summary {
             items: self.items,
             messages: self.messages,
-            glances: 0,
+            glances: self.glances,
             painted: self.picture.painted(),
         }
     }

@@ -7,16 +7,13 @@ ghost use Rattle.desk_laws.specs.declared.setup.Setup.{Setup};
 ghost use Rattle.desk_laws.specs.Picture.{pixels, label_of};
 ghost use Rattle.desk_laws.specs.Following.{LayersFollow};
 ghost use Rattle.guest_session.specs.SessionView.{IsPlace, AreRows};
-ghost use Rattle.desk_core.specs.Drawing.{colour_under, is_shown_pane};
+ghost use Rattle.desk_core.specs.Drawing.{colour_under, is_shown_pane, shown_at};
 
 use crate::picture::Picture;
 use desk_laws::RowId;
 use guest_session::{Pane, Session};
 use gui_num::{Colour, grow};
 use stacking::Stacking;
-
-// What a window shows where nothing was read of its content.
-const BLANK: Colour = Colour(0x808080);
 
 // The flag of a window that is hidden, though it is mapped (qubes-gui-protocol.h, WINDOW_FLAG_MINIMIZE).
 const MINIMIZE: u32 = 4;
@@ -29,16 +26,23 @@ fn is_shown(pane: &Pane) -> bool
 }
 
 // Draws a window onto what lies below it, if it is shown: its border in the label colour, and its
-// content blank.
-fn draw_window(picture: &mut Picture, pane: &Pane, border: u32, label: Colour)
+// contents over that.
+fn draw_window(
+    picture: &mut Picture,
+    session: &Session,
+    window: u32,
+    pane: &Pane,
+    border: u32,
+    label: Colour,
+)
     requires place { IsPlace pane.now.place }
     requires border { border ≤ 16 }
     ensures sides { (picture.new.width ≡ picture.old.width) × (picture.new.height ≡ picture.old.height) × (picture.new.painted ≡ picture.old.painted) }
-    ensures pixels { (f : Point → ℕ) → picture.old.pixels ≡ map f (pixels 0 0 picture.old.width picture.old.height) → picture.new.pixels ≡ map (λ p. if is_shown_pane pane.now && has (grown pane.now.place border) p then (if has pane.now.place p then 0x808080 else label.0) else f p) (pixels 0 0 picture.old.width picture.old.height) }
+    ensures pixels { (f : Point → ℕ) → picture.old.pixels ≡ map f (pixels 0 0 picture.old.width picture.old.height) → picture.new.pixels ≡ map (λ p. if is_shown_pane pane.now && has (grown pane.now.place border) p then (if has pane.now.place p then shown_at session.now.rows window pane.now.place p else label.0) else f p) (pixels 0 0 picture.old.width picture.old.height) }
 {
     if is_shown(pane) {
         picture.fill(grow(pane.place, border), label);
-        picture.fill(pane.place, BLANK);
+        picture.show(session, window, pane.place);
     }
 }
 
@@ -51,7 +55,7 @@ fn draw_one(picture: &mut Picture, session: &Session, id: RowId, border: u32, la
     ensures pixels { (setup : Setup) (ids : List RowId) → setup.border ≡ border → label_of setup 0 ≡ label.0 → picture.old.pixels ≡ map (colour_under setup session.now.rows ids) (pixels 0 0 picture.old.width picture.old.height) → picture.new.pixels ≡ map (colour_under setup session.now.rows (ids ++ id ∷ [])) (pixels 0 0 picture.old.width picture.old.height) }
 {
     if let Some(pane) = session.pane(id.window) {
-        draw_window(picture, pane, border, label);
+        draw_window(picture, session, id.window, pane, border, label);
     }
 }
 

@@ -1,14 +1,21 @@
 // The picture of the desktop, and how rectangles are drawn on it.
-ghost use Rattle.std.specs.Prelude.{◌≡◌, ℕ, ◌+◌, ◌*◌, ◌<◌, ◌≤◌, ◌&&◌, length, map, take, drop, slice_index, vec_len, if◌then◌else◌, IfOk};
+ghost use Rattle.std.specs.Prelude.{◌≡◌, ℕ, ◌+◌, ◌-◌, ◌*◌, ◌<◌, ◌≤◌, length, map, take, drop, slice_index, vec_len, if◌then◌else◌, IfOk, MatchOption, pos, negsuc, ◌-ℤ◌, ◌≤ℤ◌};
 ghost use Rattle.gui_num.specs.declared.Point.{Point};
 ghost use Rattle.gui_num.specs.Rects.{IsFit, has};
-ghost use Rattle.desk_laws.specs.Picture.{pixels};
+ghost use Rattle.desk_laws.specs.Picture.{pixels, nat_of};
 ghost use Rattle.desk_laws.specs.Frames.{counted};
+ghost use Rattle.guest_session.specs.SessionView.{IsPlace};
 ghost use Rattle.desk_core.specs.PictureView.{is_between};
+ghost use Rattle.desk_core.specs.Parts.{IsPartOf, CoversNone, is_in_part};
+ghost use Rattle.desk_core.specs.Drawing.{content_or_grey, shown_at};
 
+use guest_session::Session;
 use gui_num::{Colour, NoMemory, Rect, meet};
 use std::alloc::Global;
 use std::marker::Model;
+
+// What a window shows where nothing was read of its contents.
+const BLANK: Colour = Colour(0x808080);
 
 /// The picture of the desktop: one colour for each pixel. It is seen as its sides in pixels, its
 /// colours row by row from the top, and the number of pixels that were drawn in all.
@@ -31,6 +38,15 @@ impl Model for Picture {
     ghost invariant = { λ p. HasSides p.width p.height (vec_len p.pixels) };
 }
 
+// Some columns and rows of a picture: those from `left` and `top` on, and before `right` and `bottom`.
+#[derive(Clone, Copy)]
+struct Part {
+    left: usize,
+    right: usize,
+    top: usize,
+    bottom: usize,
+}
+
 // Gives the places from one on and before another this colour.
 fn fill_span(pixels: &mut [u32], from: usize, end: usize, colour: u32)
     requires order { from ≤ end }
@@ -40,26 +56,80 @@ fn fill_span(pixels: &mut [u32], from: usize, end: usize, colour: u32)
     pixels[from..end].fill(colour);
 }
 
-// Gives the pixels of some columns and rows this colour: those from `left` and `top` on, and before
-// `right` and `bottom`. Each row has `width` pixels.
-fn fill_rows(
+// Gives the pixels of a part this colour. Each row has `width` pixels.
+fn fill_rows(pixels: &mut [u32], width: usize, part: Part, colour: u32)
+    requires columns { part.left ≤ part.right }
+    requires across { part.right ≤ width }
+    requires rows { part.top ≤ part.bottom }
+    requires down { part.bottom * width ≤ length pixels.old }
+    ensures { (x y : ℕ) → x < width → y * width + x < length pixels.old → slice_index pixels.new (y * width + x) ≡ (if is_in_part part x y then colour else slice_index pixels.old (y * width + x)) }
+{
+    for y in part.top..part.bottom {
+        let start = y * width;
+        fill_span(pixels, start + part.left, start + part.right, colour);
+    }
+}
+
+// How many columns, or rows, a place of the picture lies behind the edge of a window.
+fn behind(edge: i32, place: usize) -> u32
+    requires edge { negsuc 32767 ≤ℤ edge }
+    requires order { edge ≤ℤ pos place }
+    requires small { place ≤ 8192 }
+    ensures { result ≡ nat_of (pos place -ℤ edge) }
+{
+    (place as i32 - edge) as u32
+}
+
+// Gives the places from one on and before another the colours that a window shows from column `x` of
+// its row `y` on.
+fn show_span(
+    pixels: &mut [u32],
+    from: usize,
+    end: usize,
+    session: &Session,
+    window: u32,
+    x: u32,
+    y: u32,
+)
+    requires order { from ≤ end }
+    requires inside { end ≤ length pixels.old }
+    requires small { x + (end - from) ≤ 65536 }
+    ensures { (k : ℕ) → k < length pixels.old → slice_index pixels.new k ≡ (if is_between from end k then content_or_grey session.now.rows window (x + (k - from)) y else slice_index pixels.old k) }
+{
+    session.content_row(window, x, y, BLANK, &mut pixels[from..end]);
+}
+
+// Gives the pixels of a part the colours that a window shows at this place. Each row has `width`
+// pixels.
+fn show_rows(
     pixels: &mut [u32],
     width: usize,
-    left: usize,
-    right: usize,
-    top: usize,
-    bottom: usize,
-    colour: u32,
+    part: Part,
+    session: &Session,
+    window: u32,
+    place: Rect,
 )
-    requires columns { left ≤ right }
-    requires across { right ≤ width }
-    requires rows { top ≤ bottom }
-    requires down { bottom * width ≤ length pixels.old }
-    ensures { (x y : ℕ) → x < width → y * width + x < length pixels.old → slice_index pixels.new (y * width + x) ≡ (if is_between left right x && is_between top bottom y then colour else slice_index pixels.old (y * width + x)) }
+    requires columns { part.left ≤ part.right }
+    requires across { part.right ≤ width }
+    requires rows { part.top ≤ part.bottom }
+    requires down { part.bottom * width ≤ length pixels.old }
+    requires small { (width ≤ 8192) × (part.bottom ≤ 8192) }
+    requires place { IsPlace place }
+    requires corner { (place.x ≤ℤ pos part.left) × (place.y ≤ℤ pos part.top) }
+    ensures { (x y : ℕ) → x < width → y * width + x < length pixels.old → slice_index pixels.new (y * width + x) ≡ (if is_in_part part x y then shown_at session.now.rows window place (record { x = pos x; y = pos y }) else slice_index pixels.old (y * width + x)) }
 {
-    for y in top..bottom {
+    let column = behind(place.x, part.left);
+    for y in part.top..part.bottom {
         let start = y * width;
-        fill_span(pixels, start + left, start + right, colour);
+        show_span(
+            pixels,
+            start + part.left,
+            start + part.right,
+            session,
+            window,
+            column,
+            behind(place.y, y),
+        );
     }
 }
 
@@ -109,7 +179,7 @@ impl Picture {
         self.painted
     }
 
-    /// The colours of a row, from the left. Row 0 is at the top.
+    /// The colours of a row, 0xrrggbb each, from the left. The rows are counted from the top, from 0.
     pub fn row(&self, y: u32) -> &[u32]
         requires { y < self.now.height }
         ensures row { result.now ≡ take self.now.width (drop (y * self.now.width) self.now.pixels) }
@@ -131,11 +201,10 @@ impl Picture {
             .saturating_add(u64::from(self.width) * u64::from(self.height));
     }
 
-    /// Gives the pixels of a rectangle this colour. What lies outside the picture is left out.
-    pub fn fill(&mut self, area: Rect, colour: Colour)
+    // The part of the picture that a rectangle covers, None where it covers no pixel.
+    fn part_of(&self, area: Rect) -> Option<Part>
         requires { IsFit area }
-        ensures sides { (self.new.width ≡ self.old.width) × (self.new.height ≡ self.old.height) × (self.new.painted ≡ self.old.painted) }
-        ensures pixels { (f : Point → ℕ) → self.old.pixels ≡ map f (pixels 0 0 self.old.width self.old.height) → self.new.pixels ≡ map (λ p. if has area p then colour.0 else f p) (pixels 0 0 self.old.width self.old.height) }
+        ensures { MatchOption result (CoversNone area self.now.width self.now.height) (λ part. IsPartOf area self.now.width self.now.height part) }
     {
         let whole = Rect {
             x: 0,
@@ -143,13 +212,44 @@ impl Picture {
             w: self.width,
             h: self.height,
         };
-        if let Some(part) = meet(area, whole) {
-            let left = part.x as usize;
-            let top = part.y as usize;
-            let right = left + part.w as usize;
-            let bottom = top + part.h as usize;
-            let width = self.width as usize;
-            fill_rows(&mut self.pixels, width, left, right, top, bottom, colour.0);
+        let part = meet(area, whole)?;
+        let left = part.x as usize;
+        let top = part.y as usize;
+        Some(Part {
+            left,
+            right: left + part.w as usize,
+            top,
+            bottom: top + part.h as usize,
+        })
+    }
+
+    /// Gives the pixels of a rectangle this colour. What lies outside the picture is left out.
+    pub fn fill(&mut self, area: Rect, colour: Colour)
+        requires { IsFit area }
+        ensures sides { (self.new.width ≡ self.old.width) × (self.new.height ≡ self.old.height) × (self.new.painted ≡ self.old.painted) }
+        ensures pixels { (f : Point → ℕ) → self.old.pixels ≡ map f (pixels 0 0 self.old.width self.old.height) → self.new.pixels ≡ map (λ p. if has area p then colour.0 else f p) (pixels 0 0 self.old.width self.old.height) }
+    {
+        if let Some(part) = self.part_of(area) {
+            fill_rows(&mut self.pixels, self.width as usize, part, colour.0);
+        }
+    }
+
+    /// Gives the pixels of a window's place the colours that were last read of its contents, and grey
+    /// where nothing was. What lies outside the picture is left out.
+    pub fn show(&mut self, session: &Session, window: u32, place: Rect)
+        requires { IsPlace place }
+        ensures sides { (self.new.width ≡ self.old.width) × (self.new.height ≡ self.old.height) × (self.new.painted ≡ self.old.painted) }
+        ensures pixels { (f : Point → ℕ) → self.old.pixels ≡ map f (pixels 0 0 self.old.width self.old.height) → self.new.pixels ≡ map (λ p. if has place p then shown_at session.now.rows window place p else f p) (pixels 0 0 self.old.width self.old.height) }
+    {
+        if let Some(part) = self.part_of(place) {
+            show_rows(
+                &mut self.pixels,
+                self.width as usize,
+                part,
+                session,
+                window,
+                place,
+            );
         }
     }
 }

@@ -7,5 +7,5 @@ pub invariant_of-self : goal.invariant_of-self
 invariant_of-self c =
     let i = c.self.inside in
     let P : ℕ → Type 0 = λ n. IsKept i.greeted i.stack.rows
-    (record { border = i.border; background = i.background.0; label = i.label.0; session = i.session; layers = i.stack.layers; items = n; messages = i.messages; picture = i.picture }) in
+    (record { border = i.border; background = i.background.0; label = i.label.0; session = i.session; layers = i.stack.layers; items = n; messages = i.messages; glances = i.glances; picture = i.picture }) in
     subst P (sym c.saturating_add-self-inside.ensures) (counts-kept i.greeted i.stack.rows _ c.self.invariant)

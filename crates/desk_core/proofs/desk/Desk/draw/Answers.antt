@@ -1,5 +1,6 @@
-use Rattle.std.proofs.Common.{◌≡◌, ◌∙◌, List, ◌++◌, map, sym, ap, subst}
+use Rattle.std.proofs.Common.{◌≡◌, ◌∙◌, ℕ, List, ◌++◌, map, sym, ap, subst}
 use Rattle.desk_laws.specs.declared.setup.Setup.{Setup}
+use Rattle.desk_laws.specs.Frames.{PortState}
 use Rattle.desk_laws.specs.Rows.{Row}
 use Rattle.desk_laws.specs.Layers.{Layers}
 use Rattle.desk_laws.specs.Picture.{pixels, picture}
@@ -15,8 +16,8 @@ pub returns-clause-pixels : goal.returns-clause-pixels
 returns-clause-pixels c =
     let i = c.self.inside in
     let begun = c.begin.new.self in
-    let P : DeskView → Type 0 = λ d. (setup : Setup) (state : DeskState) → Stands setup d state → c.draw_stack.new.picture.pixels ≡ picture setup state.scene.rows state.scene.layers in
-    subst P c.self.view_is (λ setup state stands.
+    let P : DeskView → Type 0 = λ d. (setup : Setup) (frames : ℕ → PortState) (state : DeskState) → Stands setup d frames state → c.draw_stack.new.picture.pixels ≡ picture setup state.scene.rows state.scene.layers in
+    subst P c.self.view_is (λ setup frames state stands.
     let s = stands.with_rest in
     let n = s.numbers in
     let blank : PictureView → Type 0 = λ v. v.pixels ≡ map (λ _. setup.background.0) (pixels 0 0 v.width v.height) in
