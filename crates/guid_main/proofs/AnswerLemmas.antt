@@ -11,30 +11,31 @@ use Rattle.io_ports.specs.declared.feed.FeedFault.TheVariants as feeds
 use Rattle.io_ports.specs.declared.feed.RecordFault.{RecordFault}
 use Rattle.io_ports.specs.declared.feed.RecordKind.TheVariants as kinds
 use Rattle.io_ports.proofs.GrowLemmas.{grows_none}
-use Rattle.guid_main.specs.declared.config.ConfigRead.{ConfigRead}
-use Rattle.guid_main.specs.declared.config.ConfigRead.TheVariants as reads
-use Rattle.guid_main.specs.declared.outcome.Outcome.{Outcome}
-use Rattle.guid_main.specs.declared.outcome.Outcome.TheVariants as outcomes
-use Rattle.guid_main.specs.declared.replay_feed.FeedState.TheVariants as states
-use Rattle.guid_main.specs.declared.replay_feed.ReplayFeed.{ReplayFeed}
+use Rattle.record_format.specs.declared.config.ConfigRead.{ConfigRead}
+use Rattle.record_format.specs.declared.config.ConfigRead.TheVariants as reads
+use Rattle.replay_driver.specs.declared.outcome.Outcome.{Outcome}
+use Rattle.replay_driver.specs.declared.outcome.Outcome.TheVariants as outcomes
+use Rattle.replay_driver.specs.declared.replay_feed.FeedState.TheVariants as states
+use Rattle.replay_driver.specs.FeedView.{FeedView}
 use Rattle.guid_main.specs.declared.status.Status.{Status}
 use Rattle.guid_main.specs.declared.status.Status.TheVariants as statuses
-use Rattle.guid_main.specs.Answers.{EndsLast, EndsNowhereElse, Ran, SaysBy, Says, most_items, record_behind, status_of, after_config}
-use Rattle.guid_main.specs.Config.{Fault, fault, config_of, config_len}
-use Rattle.guid_main.specs.FeedRuns.{FeedGives, Fed, NoEnd}
-use Rattle.guid_main.specs.OutputGrammar.{output, output_of}
-use Rattle.guid_main.specs.Readings.{Took, Spells, SpellsNothing, Reads}
-use Rattle.guid_main.specs.RecordGrammar.{Items, Ends, Faulty, Record, Run, BadStart, alone, with_front, items_from, started, record_of, whole}
-use Rattle.guid_main.proofs.FeedRuns.{fed_going, fed_end, fed_fault, fed_failed}
+use Rattle.replay_driver.specs.FeedOutcomes.{EndsLast, EndsNowhereElse, Ran}
+use Rattle.guid_main.specs.Answers.{SaysBy, Says, most_items, record_behind, status_of, after_config}
+use Rattle.record_format.specs.Config.{Fault, fault, config_of, config_len}
+use Rattle.replay_driver.specs.FeedRuns.{FeedGives, Fed, NoEnd}
+use Rattle.replay_driver.specs.Outputs.{output, output_of}
+use Rattle.record_format.specs.Readings.{Took, Spells, SpellsNothing, Reads}
+use Rattle.record_format.specs.RecordGrammar.{Items, Ends, Faulty, Record, Run, BadStart, alone, with_front, items_from, started, record_of, whole}
+use Rattle.replay_driver.proofs.FeedRuns.{fed_going, fed_end, fed_fault, fed_failed}
 
 -- where what was taken has one fact, it has another
 took_so : (bytes : List ℕ) (left : Option (List ℕ)) (one two : List ℕ → Type 0) → ((taken : List ℕ) → one taken → two taken) → Took bytes left one → Took bytes left two
 took_so bytes left one two so took = record { taken = took.taken; rest = took.rest; split = took.split; is_left = took.is_left; holds = so took.taken took.holds }
 
 -- nothing stands behind the last byte
-from_none : (guests at : ℕ) → items_from guests at [] ≡ record { each = []; ending = Faulty (fault at kinds.Short) }
+from_none : (guests pages at : ℕ) → items_from guests pages at [] ≡ record { each = []; ending = Faulty (fault at kinds.Short) }
 unfolding items_from
-from_none guests at = refl
+from_none guests pages at = refl
 
 -- the items, whatever they end in
 whole_faulty : (given : List FedItem) (f : RecordFault) → whole (record { each = given; ending = Faulty f }) ≡ given
@@ -51,14 +52,14 @@ part_so before after xs ys is part = subst (λ (l : List ℕ). GrowsPart before 
 
 -- ---- a run over a feed that reads a record
 
-done_says : {S : Type 0} (left : S → Option (List ℕ)) (faults : S → ℕ) (keeps : S → S → Type 0) (setup : Setup) (a b : ReplayFeed S) (bytes : List ℕ) (given : List FedItem) (before after : Option (List ℕ))
-    → a.state ≡ states.Going → a.guests ≡ length setup.guests → a.at ≡ config_len setup → left a.source ≡ Some bytes
+done_says : {S : Type 0} (left : S → Option (List ℕ)) (faults : S → ℕ) (keeps : S → S → Type 0) (setup : Setup) (a b : FeedView S) (bytes : List ℕ) (given : List FedItem) (before after : Option (List ℕ))
+    → a.state ≡ states.Going → a.guests ≡ length setup.guests → a.pages ≡ setup.pages → a.at ≡ config_len setup → left a.source ≡ Some bytes
     → Fed (FeedGives left faults keeps) a given None b → EndsLast given → length given ≤ most_items → Grows before (output setup given) after
     → SaysBy (record_behind setup) bytes (left b.source) statuses.Done before after
-done_says left faults keeps setup a b bytes given before after going guests at told fed ends short grown =
+done_says left faults keeps setup a b bytes given before after going guests pages at told fed ends short grown =
     let took = fed_end left faults keeps a b ends.front bytes going told ends.no_end (subst (λ (l : List FedItem). Fed (FeedGives left faults keeps) a l None b) ends.is fed) in
-    let found : items_from (length setup.guests) (config_len setup) bytes ≡ record { each = ends.front; ending = Ends } =
-    (λ i. items_from (sym guests i) (sym at i) bytes) ∙ ap (items_from a.guests a.at) took.split ∙ took.holds took.rest in (
+    let found : items_from (length setup.guests) setup.pages (config_len setup) bytes ≡ record { each = ends.front; ending = Ends } =
+    (λ i. items_from (sym guests i) (sym pages i) (sym at i) bytes) ∙ ap (items_from a.guests a.pages a.at) took.split ∙ took.holds took.rest in (
       (
         ap (λ (f : Items). f.ending) found,
         omega (arith, ap (λ (f : Items). length f.each) found, ap length ends.is, length-append ends.front (alone items.End ∷ []), short),
@@ -66,76 +67,76 @@ done_says left faults keeps setup a b bytes given before after going guests at t
       grows_so before after _ _ (same_output setup _ _ given found (sym ends.is)) grown,
     )
 
-fault_says : {S : Type 0} (left : S → Option (List ℕ)) (faults : S → ℕ) (keeps : S → S → Type 0) (setup : Setup) (a b : ReplayFeed S) (bytes : List ℕ) (given : List FedItem) (f : RecordFault) (before after : Option (List ℕ))
-    → a.state ≡ states.Going → a.guests ≡ length setup.guests → a.at ≡ config_len setup → left a.source ≡ Some bytes
+fault_says : {S : Type 0} (left : S → Option (List ℕ)) (faults : S → ℕ) (keeps : S → S → Type 0) (setup : Setup) (a b : FeedView S) (bytes : List ℕ) (given : List FedItem) (f : RecordFault) (before after : Option (List ℕ))
+    → a.state ≡ states.Going → a.guests ≡ length setup.guests → a.pages ≡ setup.pages → a.at ≡ config_len setup → left a.source ≡ Some bytes
     → Fed (FeedGives left faults keeps) a given (Some (feeds.Bad f)) b → NoEnd given → length given < most_items → Grows before (output setup given) after
     → SaysBy (record_behind setup) bytes (left b.source) (statuses.BadRecord f) before after
-fault_says left faults keeps setup a b bytes given f before after going guests at told fed none short grown =
-    let found : items_from (length setup.guests) (config_len setup) bytes ≡ record { each = given; ending = Faulty f } =
-    (λ i. items_from (sym guests i) (sym at i) bytes) ∙ fed_fault left faults keeps a b given f bytes going told none fed in (
+fault_says left faults keeps setup a b bytes given f before after going guests pages at told fed none short grown =
+    let found : items_from (length setup.guests) setup.pages (config_len setup) bytes ≡ record { each = given; ending = Faulty f } =
+    (λ i. items_from (sym guests i) (sym pages i) (sym at i) bytes) ∙ fed_fault left faults keeps a b given f bytes going told none fed in (
       (ap (λ (x : Items). x.ending) found, omega (arith, ap (λ (x : Items). length x.each) found, short)),
       grows_so before after _ _ (same_output setup _ _ given found (whole_faulty given f)) grown,
     )
 
-read_says : {S : Type 0} (left : S → Option (List ℕ)) (faults : S → ℕ) (keeps : S → S → Type 0) (setup : Setup) (a b : ReplayFeed S) (bytes : List ℕ) (given : List FedItem) (before after : Option (List ℕ))
-    → a.state ≡ states.Going → a.guests ≡ length setup.guests → a.at ≡ config_len setup → left a.source ≡ Some bytes
+read_says : {S : Type 0} (left : S → Option (List ℕ)) (faults : S → ℕ) (keeps : S → S → Type 0) (setup : Setup) (a b : FeedView S) (bytes : List ℕ) (given : List FedItem) (before after : Option (List ℕ))
+    → a.state ≡ states.Going → a.guests ≡ length setup.guests → a.pages ≡ setup.pages → a.at ≡ config_len setup → left a.source ≡ Some bytes
     → Fed (FeedGives left faults keeps) a given (Some feeds.Failed) b → NoEnd given → Grows before (output setup given) after
     → SaysBy (record_behind setup) bytes (left b.source) statuses.ReadFault before after
-read_says left faults keeps setup a b bytes given before after going guests at told fed none grown =
+read_says left faults keeps setup a b bytes given before after going guests pages at told fed none grown =
     let took = fed_failed left faults keeps a b given bytes going told none fed in
     took_so bytes (left b.source) _ _ (λ taken is.
-    let found : items_from (length setup.guests) (config_len setup) taken ≡ record { each = given; ending = Faulty (fault took.0 kinds.Short) } =
-    (λ i. items_from (sym guests i) (sym at i) taken) ∙ is in
+    let found : items_from (length setup.guests) setup.pages (config_len setup) taken ≡ record { each = given; ending = Faulty (fault took.0 kinds.Short) } =
+    (λ i. items_from (sym guests i) (sym pages i) (sym at i) taken) ∙ is in
     grows_so before after _ _ (same_output setup _ _ given found (whole_faulty given (fault took.0 kinds.Short))) grown) took.1
 
-write_says : {S : Type 0} (left : S → Option (List ℕ)) (faults : S → ℕ) (keeps : S → S → Type 0) (setup : Setup) (a b : ReplayFeed S) (bytes : List ℕ) (given : List FedItem) (before after : Option (List ℕ))
-    → a.state ≡ states.Going → a.guests ≡ length setup.guests → a.at ≡ config_len setup → left a.source ≡ Some bytes
+write_says : {S : Type 0} (left : S → Option (List ℕ)) (faults : S → ℕ) (keeps : S → S → Type 0) (setup : Setup) (a b : FeedView S) (bytes : List ℕ) (given : List FedItem) (before after : Option (List ℕ))
+    → a.state ≡ states.Going → a.guests ≡ length setup.guests → a.pages ≡ setup.pages → a.at ≡ config_len setup → left a.source ≡ Some bytes
     → Fed (FeedGives left faults keeps) a given None b → EndsNowhereElse given → GrowsPart before (output setup given) after
     → SaysBy (record_behind setup) bytes (left b.source) statuses.WriteFault before after
-write_says left faults keeps setup a b bytes given before after going guests at told fed (inl none) part =
+write_says left faults keeps setup a b bytes given before after going guests pages at told fed (inl none) part =
     let gone = fed_going left faults keeps a b given bytes going told none fed in
     took_so bytes (left b.source) _ _ (λ taken is.
-    let found : items_from (length setup.guests) (config_len setup) taken ≡ record { each = given; ending = Faulty (fault b.at kinds.Short) } =
-    (λ i. items_from (sym guests i) (sym at i) taken) ∙ ap (items_from a.guests a.at) (sym (append-nil taken)) ∙ is []
-    ∙ ap (with_front given) (from_none a.guests b.at) ∙ ap (λ (l : List FedItem). record { each = l; ending = Faulty (fault b.at kinds.Short) }) (append-nil given) in
+    let found : items_from (length setup.guests) setup.pages (config_len setup) taken ≡ record { each = given; ending = Faulty (fault b.at kinds.Short) } =
+    (λ i. items_from (sym guests i) (sym pages i) (sym at i) taken) ∙ ap (items_from a.guests a.pages a.at) (sym (append-nil taken)) ∙ is []
+    ∙ ap (with_front given) (from_none a.guests a.pages b.at) ∙ ap (λ (l : List FedItem). record { each = l; ending = Faulty (fault b.at kinds.Short) }) (append-nil given) in
     part_so before after _ _ (same_output setup _ _ given found (whole_faulty given (fault b.at kinds.Short))) part) gone.took
-write_says left faults keeps setup a b bytes given before after going guests at told fed (inr ends) part =
+write_says left faults keeps setup a b bytes given before after going guests pages at told fed (inr ends) part =
     let took = fed_end left faults keeps a b ends.front bytes going told ends.no_end (subst (λ (l : List FedItem). Fed (FeedGives left faults keeps) a l None b) ends.is fed) in
     took_so bytes (left b.source) _ _ (λ taken is.
-    let found : items_from (length setup.guests) (config_len setup) taken ≡ record { each = ends.front; ending = Ends } =
-    (λ i. items_from (sym guests i) (sym at i) taken) ∙ ap (items_from a.guests a.at) (sym (append-nil taken)) ∙ is [] in
+    let found : items_from (length setup.guests) setup.pages (config_len setup) taken ≡ record { each = ends.front; ending = Ends } =
+    (λ i. items_from (sym guests i) (sym pages i) (sym at i) taken) ∙ ap (items_from a.guests a.pages a.at) (sym (append-nil taken)) ∙ is [] in
     part_so before after _ _ (same_output setup _ _ given found (sym ends.is)) part) took
 
-long_says : {S : Type 0} (left : S → Option (List ℕ)) (faults : S → ℕ) (keeps : S → S → Type 0) (setup : Setup) (a b : ReplayFeed S) (bytes : List ℕ) (given : List FedItem) (before after : Option (List ℕ))
-    → a.state ≡ states.Going → a.guests ≡ length setup.guests → a.at ≡ config_len setup → left a.source ≡ Some bytes
+long_says : {S : Type 0} (left : S → Option (List ℕ)) (faults : S → ℕ) (keeps : S → S → Type 0) (setup : Setup) (a b : FeedView S) (bytes : List ℕ) (given : List FedItem) (before after : Option (List ℕ))
+    → a.state ≡ states.Going → a.guests ≡ length setup.guests → a.pages ≡ setup.pages → a.at ≡ config_len setup → left a.source ≡ Some bytes
     → Fed (FeedGives left faults keeps) a given None b → NoEnd given → length given ≡ most_items → Grows before (output setup given) after
     → SaysBy (record_behind setup) bytes (left b.source) statuses.TooLong before after
-long_says left faults keeps setup a b bytes given before after going guests at told fed none long grown =
+long_says left faults keeps setup a b bytes given before after going guests pages at told fed none long grown =
     let gone = fed_going left faults keeps a b given bytes going told none fed in
-    let behind = items_from a.guests b.at gone.took.rest in
-    let found : items_from (length setup.guests) (config_len setup) bytes ≡ with_front given behind =
-    (λ i. items_from (sym guests i) (sym at i) bytes) ∙ ap (items_from a.guests a.at) gone.took.split ∙ gone.took.holds gone.took.rest in
-    let each : (items_from (length setup.guests) (config_len setup) bytes).each ≡ given ++ behind.each = ap (λ (f : Items). f.each) found in (
+    let behind = items_from a.guests a.pages b.at gone.took.rest in
+    let found : items_from (length setup.guests) setup.pages (config_len setup) bytes ≡ with_front given behind =
+    (λ i. items_from (sym guests i) (sym pages i) (sym at i) bytes) ∙ ap (items_from a.guests a.pages a.at) gone.took.split ∙ gone.took.holds gone.took.rest in
+    let each : (items_from (length setup.guests) setup.pages (config_len setup) bytes).each ≡ given ++ behind.each = ap (λ (f : Items). f.each) found in (
       omega (arith, ap length each, length-append given behind.each, long),
       grows_so before after _ _ (ap (output setup) (sym (ap (take most_items) each ∙ take_at given behind.each most_items long))) grown,
     )
 
 -- what an outcome says of the bytes behind the setup
-pub outcome_says : {S : Type 0} (left : S → Option (List ℕ)) (faults : S → ℕ) (keeps : S → S → Type 0) (setup : Setup) (a b : ReplayFeed S) (bytes : List ℕ) (given : List FedItem) (last : Option FeedFault) (outcome : Outcome) (before after : Option (List ℕ))
-    → a.state ≡ states.Going → a.guests ≡ length setup.guests → a.at ≡ config_len setup → left a.source ≡ Some bytes
+pub outcome_says : {S : Type 0} (left : S → Option (List ℕ)) (faults : S → ℕ) (keeps : S → S → Type 0) (setup : Setup) (a b : FeedView S) (bytes : List ℕ) (given : List FedItem) (last : Option FeedFault) (outcome : Outcome) (before after : Option (List ℕ))
+    → a.state ≡ states.Going → a.guests ≡ length setup.guests → a.pages ≡ setup.pages → a.at ≡ config_len setup → left a.source ≡ Some bytes
     → Fed (FeedGives left faults keeps) a given last b → Ran setup most_items given last outcome before after
     → SaysBy (record_behind setup) bytes (left b.source) (status_of outcome) before after
-outcome_says left faults keeps setup a b bytes given last outcomes.Done before after going guests at told fed ran =
-    done_says left faults keeps setup a b bytes given before after going guests at told (subst (λ (l : Option FeedFault). Fed (FeedGives left faults keeps) a given l b) ran.0 fed) ran.1 ran.2 ran.3
-outcome_says left faults keeps setup a b bytes given last (outcomes.BadRecord f) before after going guests at told fed ran =
-    fault_says left faults keeps setup a b bytes given f before after going guests at told (subst (λ (l : Option FeedFault). Fed (FeedGives left faults keeps) a given l b) ran.0 fed) ran.1 ran.2 ran.3
-outcome_says left faults keeps setup a b bytes given last outcomes.ReadFault before after going guests at told fed ran =
-    read_says left faults keeps setup a b bytes given before after going guests at told (subst (λ (l : Option FeedFault). Fed (FeedGives left faults keeps) a given l b) ran.0 fed) ran.1 ran.3
-outcome_says left faults keeps setup a b bytes given last outcomes.WriteFault before after going guests at told fed ran =
-    write_says left faults keeps setup a b bytes given before after going guests at told (subst (λ (l : Option FeedFault). Fed (FeedGives left faults keeps) a given l b) ran.0 fed) ran.1 ran.3
-outcome_says left faults keeps setup a b bytes given last outcomes.NoMemory before after going guests at told fed ran = ran.2
-outcome_says left faults keeps setup a b bytes given last outcomes.TooLong before after going guests at told fed ran =
-    long_says left faults keeps setup a b bytes given before after going guests at told (subst (λ (l : Option FeedFault). Fed (FeedGives left faults keeps) a given l b) ran.0 fed) ran.1 ran.2 ran.3
+outcome_says left faults keeps setup a b bytes given last outcomes.Done before after going guests pages at told fed ran =
+    done_says left faults keeps setup a b bytes given before after going guests pages at told (subst (λ (l : Option FeedFault). Fed (FeedGives left faults keeps) a given l b) ran.0 fed) ran.1 ran.2 ran.3
+outcome_says left faults keeps setup a b bytes given last (outcomes.BadRecord f) before after going guests pages at told fed ran =
+    fault_says left faults keeps setup a b bytes given f before after going guests pages at told (subst (λ (l : Option FeedFault). Fed (FeedGives left faults keeps) a given l b) ran.0 fed) ran.1 ran.2 ran.3
+outcome_says left faults keeps setup a b bytes given last outcomes.ReadFault before after going guests pages at told fed ran =
+    read_says left faults keeps setup a b bytes given before after going guests pages at told (subst (λ (l : Option FeedFault). Fed (FeedGives left faults keeps) a given l b) ran.0 fed) ran.1 ran.3
+outcome_says left faults keeps setup a b bytes given last outcomes.WriteFault before after going guests pages at told fed ran =
+    write_says left faults keeps setup a b bytes given before after going guests pages at told (subst (λ (l : Option FeedFault). Fed (FeedGives left faults keeps) a given l b) ran.0 fed) ran.1 ran.3
+outcome_says left faults keeps setup a b bytes given last outcomes.NoMemory before after going guests pages at told fed ran = ran.2
+outcome_says left faults keeps setup a b bytes given last outcomes.TooLong before after going guests pages at told fed ran =
+    long_says left faults keeps setup a b bytes given before after going guests pages at told (subst (λ (l : Option FeedFault). Fed (FeedGives left faults keeps) a given l b) ran.0 fed) ran.1 ran.2 ran.3
 
 -- ---- the whole record
 
@@ -187,12 +188,15 @@ no_setup (reads.Bad f) bytes left before given =
 no_setup (reads.Rule k) bytes left before given = (ap started given, refl)
 no_setup reads.NoMemory bytes left before given = refl
 
--- the same of an input that is seen again
+-- the same of a source that is seen again
 pub says_again : {X : Type 0} (left : X → Option (List ℕ)) (setup : Setup) (bytes : List ℕ) (status status' : Status) (before after : Option (List ℕ)) (x y : X) → x ≡ y → status' ≡ status
     → SaysBy (record_behind setup) bytes (left y) status before after → SaysBy (record_behind setup) bytes (left x) status' before after
 says_again {X} left setup bytes status status' before after x y same is says =
     subst (λ (s : Status). SaysBy (record_behind setup) bytes (left x) s before after) (sym is)
     (subst (λ (v : X). SaysBy (record_behind setup) bytes (left v) status before after) (sym same) says)
+
+pub kept_again : {X : Type 0} (keeps : X → X → Type 0) (a a' x y : X) → a ≡ a' → x ≡ y → keeps a y → keeps a' x
+kept_again {X} keeps a a' x y before after kept = subst (λ (v : X). keeps v x) before (subst (λ (v : X). keeps a v) (sym after) kept)
 
 pub later_again : {X : Type 0} (faults : X → ℕ) (a x y : X) → x ≡ y → faults a ≤ faults y → faults a ≤ faults x
 later_again {X} faults a x y same later = subst (λ (v : X). faults a ≤ faults v) (sym same) later

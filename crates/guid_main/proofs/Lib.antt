@@ -1,11 +1,1 @@
-pub mod PictureBytes
-pub mod GuestPosts
-pub mod WriterLemmas
-pub mod DeskFacts
-pub mod ItemWriteLemmas
-pub mod RunLemmas
-pub mod ReaderLemmas
-pub mod ItemLemmas
-pub mod FeedLemmas
-pub mod FeedRuns
 pub mod AnswerLemmas

@@ -1,54 +1,19 @@
--- What each answer of a run says: of the items that were given, of the record, and of what was written.
-use Rattle.std.specs.Prelude.{◌⊎◌, ◌≡◌, ℕ, ◌<◌, ◌≤◌, ◌^◌, List, [], ◌∷◌, ◌++◌, length, take, map, codes, string_bytes, Option, Some, None, String}
+-- What each status says of the record, and of what was written.
+use Rattle.std.specs.Prelude.{◌≡◌, ℕ, ◌<◌, ◌≤◌, ◌^◌, List, [], ◌∷◌, length, take, map, codes, string_bytes, Option, Some, String}
 use Rattle.std.specs.Global.{Global}
 use Rattle.io_ports.specs.Content.{Grows, GrowsPart}
-use Rattle.io_ports.specs.Feeds.{Answer}
 use Rattle.io_ports.specs.declared.feed.RecordFault.{RecordFault}
-use Rattle.io_ports.specs.declared.feed.FeedFault.{FeedFault}
-use Rattle.io_ports.specs.declared.feed.FeedFault.TheVariants as feeds
 use Rattle.desk_laws.specs.declared.setup.Setup.{Setup}
-use Rattle.desk_laws.specs.declared.item.Item.TheVariants as items
-use Rattle.desk_laws.specs.Items.{FedItem}
-use Rattle.guid_main.specs.declared.config.ConfigRead.{ConfigRead}
-use Rattle.guid_main.specs.declared.config.ConfigRead.TheVariants as reads
-use Rattle.guid_main.specs.declared.outcome.Outcome.{Outcome}
-use Rattle.guid_main.specs.declared.outcome.Outcome.TheVariants as outcomes
+use Rattle.record_format.specs.declared.config.ConfigRead.{ConfigRead}
+use Rattle.record_format.specs.declared.config.ConfigRead.TheVariants as reads
+use Rattle.replay_driver.specs.declared.outcome.Outcome.{Outcome}
+use Rattle.replay_driver.specs.declared.outcome.Outcome.TheVariants as outcomes
 use Rattle.guid_main.specs.declared.status.Status.{Status}
 use Rattle.guid_main.specs.declared.status.Status.TheVariants as statuses
-use Rattle.guid_main.specs.Config.{Fault, Rule, config_len}
-use Rattle.guid_main.specs.FeedRuns.{NoEnd, Fed}
-use Rattle.guid_main.specs.OutputGrammar.{output, output_of}
-use Rattle.guid_main.specs.Readings.{Took}
-use Rattle.guid_main.specs.RecordGrammar.{Ends, Faulty, Record, BadStart, Run, alone, items_from, record_of}
-
--- ---- a run over a feed
-
--- End stands last among the items, and nowhere else
-pub record EndsLast (given : List FedItem) : Type 0 where
-  pub front : List FedItem
-  pub is : given ≡ front ++ alone items.End ∷ []
-  pub no_end : NoEnd front
-
--- End stands nowhere among the items but perhaps at the last place
-abbrev pub EndsNowhereElse : List FedItem → Type 0
-EndsNowhereElse given = NoEnd given ⊎ EndsLast given
-
--- What an outcome says of the items that were given, of the fault that was answered then, if one was,
--- and of what was written, where at most so many items are taken.
-abbrev pub Ran : Setup → ℕ → List FedItem → Option FeedFault → Outcome → Option (List ℕ) → Option (List ℕ) → Type 0
-Ran setup bound given last outcomes.Done before after =
-    (last ≡ None) × EndsLast given × (length given ≤ bound) × Grows before (output setup given) after
-Ran setup bound given last (outcomes.BadRecord f) before after =
-    (last ≡ Some (feeds.Bad f)) × NoEnd given × (length given < bound) × Grows before (output setup given) after
-Ran setup bound given last outcomes.ReadFault before after =
-    (last ≡ Some feeds.Failed) × NoEnd given × (length given < bound) × Grows before (output setup given) after
-Ran setup bound given last outcomes.WriteFault before after =
-    (last ≡ None) × EndsNowhereElse given × (length given ≤ bound) × GrowsPart before (output setup given) after
-Ran setup bound given last outcomes.NoMemory before after = (last ≡ None) × (given ≡ []) × (after ≡ before)
-Ran setup bound given last outcomes.TooLong before after =
-    (last ≡ None) × NoEnd given × (length given ≡ bound) × Grows before (output setup given) after
-
--- ---- the top call
+use Rattle.record_format.specs.Config.{Fault, Rule, config_len}
+use Rattle.replay_driver.specs.Outputs.{output, output_of}
+use Rattle.record_format.specs.Readings.{Took}
+use Rattle.record_format.specs.RecordGrammar.{Ends, Faulty, Record, BadStart, Run, items_from, record_of}
 
 -- how many items a run takes at most
 abbrev pub most_items : ℕ
@@ -88,7 +53,7 @@ Says bytes left status before after = SaysBy record_of bytes left status before 
 
 -- the record of these bytes where they stand behind a setup
 abbrev pub record_behind : Setup → List ℕ → Record
-record_behind setup bytes = Run setup (items_from (length setup.guests) (config_len setup) bytes)
+record_behind setup bytes = Run setup (items_from (length setup.guests) setup.pages (config_len setup) bytes)
 
 -- the one form of the words
 abbrev pub IsReplay : List (String Global) → Type 0
@@ -103,21 +68,9 @@ status_of outcomes.WriteFault = statuses.WriteFault
 status_of outcomes.NoMemory = statuses.NoMemory
 status_of outcomes.TooLong = statuses.TooLong
 
--- the outcome where the feed gave no item
-abbrev pub after_feed : FeedFault → Outcome
-after_feed feeds.Failed = outcomes.ReadFault
-after_feed (feeds.Bad f) = outcomes.BadRecord f
-
 -- the status where no setup was read
 abbrev pub after_config : ConfigRead → Status
 after_config reads.Failed = statuses.ReadFault
 after_config (reads.Bad f) = statuses.BadRecord f
 after_config (reads.Rule k) = statuses.BadConfig k
 after_config reads.NoMemory = statuses.NoMemory
-
--- What a run over a feed did: what led from the feed before to the feed after, and what the outcome says of it.
-pub record RanOver {F : Type 0} (gives : F → Answer → F → Type 0) (setup : Setup) (bound : ℕ) (a b : F) (outcome : Outcome) (before after : Option (List ℕ)) : Type 0 where
-  pub given : List FedItem
-  pub last : Option FeedFault
-  pub fed : Fed gives a given last b
-  pub ran : Ran setup bound given last outcome before after

@@ -1,11 +1,1 @@
-pub mod Config
-pub mod RecordGrammar
-pub mod OutputGrammar
-pub mod Readings
-pub mod Parts
-pub mod ItemParts
-pub mod FeedReadings
-pub mod FeedRuns
 pub mod Answers
-pub mod Writes
-pub mod ItemWrites

@@ -1,19 +1,12 @@
 //! The daemon's program: replays a record of a desktop.
 #![tactic(auto)]
 
-mod config;
-mod desk_run;
-mod item_writer;
+#[cfg(test)]
+mod frame_tests;
 #[cfg(test)]
 mod message_tests;
-mod outcome;
-mod part;
-mod picture_writer;
-mod post_writer;
-mod replay_feed;
 mod run;
 mod status;
-mod summary_writer;
 #[cfg(test)]
 mod tests;
 

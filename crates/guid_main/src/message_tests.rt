@@ -23,7 +23,7 @@ fn config_of_four_pages() -> [u8; 42] {
 }
 
 // Numbers as they stand in messages.
-fn spelled(alloc: Global, numbers: &[u32]) -> Result<Vec<u8>, Fail> {
+pub(crate) fn spelled(alloc: Global, numbers: &[u32]) -> Result<Vec<u8>, Fail> {
     let mut bytes = Vec::new(alloc);
     for number in numbers {
         bytes.extend_from_slice(&number.to_le_bytes())?;
@@ -32,13 +32,13 @@ fn spelled(alloc: Global, numbers: &[u32]) -> Result<Vec<u8>, Fail> {
 }
 
 // A Bytes item of guest 0.
-fn item(alloc: Global, piece: &[u8]) -> Result<Vec<u8>, Fail> {
+pub(crate) fn item(alloc: Global, piece: &[u8]) -> Result<Vec<u8>, Fail> {
     let len = piece.len().min(65_536) as u32;
     joined(alloc, &[&[2, 0], &len.to_le_bytes(), piece])
 }
 
 // The version and these numbers, as one Bytes item.
-fn said(alloc: Global, numbers: &[&[u32]]) -> Result<Vec<u8>, Fail> {
+pub(crate) fn said(alloc: Global, numbers: &[&[u32]]) -> Result<Vec<u8>, Fail> {
     let mut piece = Vec::new(alloc);
     piece.extend_from_slice(&VERSION)?;
     for some in numbers {
@@ -49,19 +49,19 @@ fn said(alloc: Global, numbers: &[&[u32]]) -> Result<Vec<u8>, Fail> {
 }
 
 // An Ended record of guest 0.
-fn ended(cause: u8, a: u32, b: u32) -> [u8; 11] {
+pub(crate) fn ended(cause: u8, a: u32, b: u32) -> [u8; 11] {
     let [a0, a1, a2, a3] = a.to_le_bytes();
     let [b0, b1, b2, b3] = b.to_le_bytes();
     [2, 0, cause, a0, a1, a2, a3, b0, b1, b2, b3]
 }
 
 // A Reply record of guest 0, with so many bytes that these numbers spell.
-fn reply(alloc: Global, len: u32, numbers: &[u32]) -> Result<Vec<u8>, Fail> {
+pub(crate) fn reply(alloc: Global, len: u32, numbers: &[u32]) -> Result<Vec<u8>, Fail> {
     let bytes = spelled(alloc, numbers)?;
     joined(alloc, &[&[1, 0], &len.to_le_bytes(), &bytes])
 }
 
-fn no_window(alloc: Global) -> Result<Vec<u8>, Fail> {
+pub(crate) fn no_window(alloc: Global) -> Result<Vec<u8>, Fail> {
     picture(alloc, &[b'.'; 48])
 }
 

@@ -1,17 +1,18 @@
 // The program's top call.
-ghost use Rattle.std.specs.Prelude.{◌≤◌, ◌≡◌, ◌↔◌, IsTrue, None};
+ghost use Rattle.std.specs.Prelude.{◌≤◌, ◌≡◌, ◌↔◌, length, IsTrue, IfOk, IsOk, None};
 ghost use Rattle.io_ports.specs.Content.{Told};
 ghost use Rattle.io_ports.specs.Counts.{Rose};
 ghost use Rattle.desk_laws.specs.Rules.{first_broken, Fits};
+ghost use Rattle.frame_pool.specs.Ports.{AreZeros};
 ghost use Rattle.guid_main.specs.Answers.{Says, SaysBy, IsReplay, after_config, status_of, record_behind};
 
-use crate::config::{ConfigRead, config_len, read_config};
-use crate::desk_run::desk_run;
-use crate::outcome::{Bounds, Outcome};
-use crate::replay_feed::ReplayFeed;
 use crate::status::Status;
 use desk_laws::Setup;
+use frame_pool::{FramePort, PoolPort};
+use gui_num::NoMemory;
 use io_ports::{Sink, Source};
+use record_format::{ConfigRead, config_len, read_config};
+use replay_driver::{Bounds, Outcome, ReplayFeed, desk_run};
 use std::alloc::Global;
 
 // How many items a run takes at most.
@@ -56,7 +57,40 @@ fn status_of(outcome: Outcome) -> Status
     }
 }
 
-// Replays the items behind this setup.
+// Replays the items behind this setup, which the source has left, over a port of zero words, and hands
+// the source back.
+fn replay_over<S: Source, P: FramePort, K: Sink>(
+    alloc: Global,
+    setup: &Setup,
+    source: S,
+    port: &mut P,
+    out: &mut K,
+) -> Result<(Status, S), NoMemory>
+    requires sound { first_broken setup.now ≡ None }
+    requires fits { Fits setup.now }
+    requires port_guests { P.guests port.old ≡ length setup.now.guests }
+    requires port_pages { P.pages port.old ≡ setup.now.pages }
+    requires zeros { AreZeros (P.guests port.old) (P.pages port.old) (P.state port.old) }
+    ensures ok { IsOk result }
+    ensures says { IfOk result (λ r. Told (S.left source) (λ bytes. SaysBy (record_behind setup.now) bytes (S.left r.1) r.0 (K.written out.old) (K.written out.new))) }
+    ensures keeps { IfOk result (λ r. S.keeps source r.1) }
+    ensures read_later { IfOk result (λ r. S.faults source ≤ S.faults r.1) }
+    ensures read { IfOk result (λ r. r.0 ≡ Status.ReadFault → Rose (S.faults source) (S.faults r.1)) }
+    ensures write_later { K.faults out.old ≤ K.faults out.new }
+    ensures write { IfOk result (λ r. r.0 ≡ Status.WriteFault → Rose (K.faults out.old) (K.faults out.new)) }
+    ensures words { IfOk result (λ r. r.0 ≡ Status.Usage → ⊥) }
+{
+    let start = config_len(setup);
+    let mut feed = match ReplayFeed::new(alloc, source, setup, start) {
+        Ok(feed) => feed,
+        Err(e) => return Err(e),
+    };
+    let bounds = Bounds { items: MOST_ITEMS };
+    let outcome = desk_run(alloc, setup, &mut feed, port, out, bounds);
+    Ok((status_of(outcome), feed.finish()))
+}
+
+// Replays the items behind this setup, over frames of zero words.
 fn replay<S: Source, K: Sink>(alloc: Global, setup: &Setup, input: &mut S, out: &mut K) -> Status
     requires sound { first_broken setup.now ≡ None }
     requires fits { Fits setup.now }
@@ -67,14 +101,15 @@ fn replay<S: Source, K: Sink>(alloc: Global, setup: &Setup, input: &mut S, out: 
     ensures write { result ≡ Status.WriteFault → Rose (K.faults out.old) (K.faults out.new) }
     ensures words { result ≡ Status.Usage → ⊥ }
 {
-    let start = config_len(setup);
-    let mut feed = match ReplayFeed::new(alloc, input, setup, start) {
-        Ok(feed) => feed,
+    let guests = setup.guests.items();
+    let mut port = match PoolPort::new(alloc, guests.len() as u32, setup.pages) {
+        Ok(port) => port,
         Err(_) => return Status::NoMemory,
     };
-    let bounds = Bounds { items: MOST_ITEMS };
-    let outcome = desk_run(alloc, setup, &mut feed, out, bounds);
-    status_of(outcome)
+    match replay_over(alloc, setup, input, &mut port, out) {
+        Ok((status, _)) => status,
+        Err(_) => Status::NoMemory,
+    }
 }
 
 /// Does all that the program does, for the words after its name: with the one word `replay` it reads

@@ -59,7 +59,8 @@ pub(crate) fn joined(alloc: Global, parts: &[&[u8]]) -> Result<Vec<u8>, Fail> {
     Ok(all)
 }
 
-// A Picture record of 8 by 6 pixels: `.` is black, `R` red, `-` the grey of what was never read.
+// A Picture record of 8 by 6 pixels: `.` is black, `R` red, `-` the grey of what was never read, `a` the
+// colour 112233 and `b` the colour aabbcc.
 pub(crate) fn picture(alloc: Global, map: &[u8]) -> Result<Vec<u8>, Fail> {
     let mut record = Vec::new(alloc);
     record.extend_from_slice(&[3, 155, 0, 0, 0])?;
@@ -68,6 +69,8 @@ pub(crate) fn picture(alloc: Global, map: &[u8]) -> Result<Vec<u8>, Fail> {
         let colour: [u8; 3] = match *pixel {
             b'R' => [255, 0, 0],
             b'-' => [128, 128, 128],
+            b'a' => [0x11, 0x22, 0x33],
+            b'b' => [0xaa, 0xbb, 0xcc],
             _ => [0, 0, 0],
         };
         record.extend_from_slice(&colour)?;
@@ -84,7 +87,7 @@ fn words(alloc: Global, given: &[&str]) -> Result<Vec<String>, Fail> {
 }
 
 // The status and the output of a run, where these reads and puts fail.
-fn replayed(
+pub(crate) fn replayed(
     alloc: Global,
     record: &[u8],
     reads: &[u64],

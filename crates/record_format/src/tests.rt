@@ -1,0 +1,121 @@
+// Items spelled by hand, and read.
+ghost use Rattle.std.specs.Prelude.{◌≡◌, ◌≤◌, length};
+ghost use Rattle.desk_laws.specs.Items.{IsInRange};
+ghost use Rattle.record_format.specs.ItemSpellings.{item_spelling};
+ghost use Rattle.record_format.specs.ItemFields.{HasFields};
+
+use crate::{config_len, fixed_len, item_of, put_config, read_config, spell_item};
+use desk_laws::{GuestSetup, Guests, Item, Name, Setup};
+use gui_num::Colour;
+use io_ports::{MemSink, MemSource};
+use std::alloc::Global;
+use std::process::Abort;
+use std::test::Fail;
+
+// A desktop of 8 by 6 pixels, borders of one pixel, and the guest `red`.
+fn small_desktop(alloc: Global) -> Result<Setup, Fail> {
+    let mut guests = Guests::new(alloc);
+    guests.push(GuestSetup {
+        colour: Colour(0xff_0000),
+        name: Name::new(b"red"),
+    })?;
+    Ok(Setup {
+        width: 8,
+        height: 6,
+        border: 1,
+        pages: 8192,
+        tiles: 4096,
+        percent: 90,
+        background: Colour(0),
+        guests,
+    })
+}
+
+// An item and its spelling.
+fn goes(rt: &impl Abort, setup: &Setup, item: Item, len: usize, spelled: &[u8])
+    requires there { item ≡ Item.Idle → ⊥ }
+    requires range { IsInRange 16 16384 item len }
+    requires room { length (item_spelling item len) ≤ 16 }
+    requires fields { HasFields spelled.now }
+{
+    let mut room = [0u8; 16];
+    let size = spell_item(&item, len, &mut room);
+    assert_eq!(rt; &room[..size], spelled);
+    assert_eq!(rt; item_of(spelled, setup), Some((item, len)));
+}
+
+#[test]
+fn items(rt: HostRuntime) -> Result<(), Fail> {
+    let setup = small_desktop(rt.alloc())?;
+    goes(
+        &rt,
+        &setup,
+        Item::Bytes { guest: 0 },
+        60,
+        &[2, 0, 60, 0, 0, 0],
+    );
+    let store = Item::Store {
+        guest: 0,
+        delay: 1,
+        page: 300,
+        offset: 4,
+    };
+    goes(
+        &rt,
+        &setup,
+        store,
+        12,
+        &[4, 0, 1, 0, 44, 1, 0, 0, 4, 0, 0, 0, 12, 0, 0, 0],
+    );
+    let key = Item::Key {
+        down: true,
+        code: 38,
+        state: 5,
+    };
+    goes(&rt, &setup, key, 0, &[5, 1, 38, 5, 0]);
+    let moved = Item::Move {
+        x: -1,
+        y: 3,
+        state: 256,
+    };
+    goes(
+        &rt,
+        &setup,
+        moved,
+        0,
+        &[6, 255, 255, 255, 255, 3, 0, 0, 0, 0, 1],
+    );
+    goes(&rt, &setup, Item::Next, 0, &[8, 2, 0, 0, 0, 0, 0, 0, 0, 0]);
+    let size = Item::SizeTo { w: 0, h: 5 };
+    goes(&rt, &setup, size, 0, &[8, 5, 0, 0, 0, 0, 5, 0, 0, 0]);
+    goes(&rt, &setup, Item::End, 0, &[10]);
+    assert_eq!(rt; fixed_len(1), None);
+    assert_eq!(rt; fixed_len(4), Some(15));
+    // another guest; a state above the most
+    assert!(rt; item_of(&[3, 1], &setup).is_none());
+    assert!(rt; item_of(&[5, 0, 38, 0, 32], &setup).is_none());
+    Ok(())
+}
+
+// A setup is written, and read again.
+#[test]
+fn setup_both_ways(rt: HostRuntime) -> Result<(), Fail> {
+    let spelled: [u8; 42] = [
+        81, 71, 82, 49, 1, 8, 0, 0, 0, 6, 0, 0, 0, 1, 0, 0, 0, 0, 32, 0, 0, 0, 16, 0, 0, 90, 0, 0,
+        0, 0, 0, 0, 0, 1, 0, 0, 255, 0, 3, 114, 101, 100,
+    ];
+    let alloc = rt.alloc();
+    let mut source = MemSource::new(alloc, &spelled, &[])?;
+    let setup = match read_config(alloc, &mut source) {
+        Ok(setup) => setup,
+        Err(_) => {
+            assert!(rt; false);
+            return Ok(());
+        }
+    };
+    let mut out = MemSink::new(alloc, &[])?;
+    assert!(rt; put_config(&setup, &mut out).is_ok());
+    assert_eq!(rt; out.bytes(), spelled.as_slice());
+    assert_eq!(rt; config_len(&setup), 42);
+    Ok(())
+}

@@ -1,0 +1,9 @@
+pub mod PictureBytes
+pub mod GuestPosts
+pub mod WriterLemmas
+pub mod DeskFacts
+pub mod ItemWriteLemmas
+pub mod RunLemmas
+pub mod ItemLemmas
+pub mod FeedLemmas
+pub mod FeedRuns

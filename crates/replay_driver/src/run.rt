@@ -1,0 +1,163 @@
+// Runs the desk over a feed.
+ghost use Rattle.std.specs.Prelude.{◌≡◌, ◌≤◌, ◌*◌, length, vec_len, IfOk, None};
+ghost use Rattle.io_ports.specs.Counts.{Rose};
+ghost use Rattle.desk_laws.specs.Rules.{first_broken, Fits};
+ghost use Rattle.desk_laws.specs.State.{opening};
+ghost use Rattle.replay_driver.specs.FeedOutcomes.{RanOver, after_feed};
+ghost use Rattle.frame_pool.specs.Ports.{AreZeros};
+ghost use Rattle.desk_core.specs.DeskStands.{Stands, picture_of};
+ghost use Rattle.record_format.specs.OutputGrammar.{picture_head};
+ghost use Rattle.record_format.specs.RecordGrammar.{is_end};
+
+use crate::item_writer::write_item;
+use crate::outcome::{Bounds, Outcome};
+use crate::picture_writer::picture_head;
+use desk_core::Desk;
+use desk_laws::{Item, Setup};
+use frame_pool::FramePort;
+use gui_num::NoMemory;
+use io_ports::{Feed, FeedFault, Sink};
+use std::alloc::Global;
+
+// The longest piece of a guest's bytes.
+const PIECE: usize = 65536;
+
+// What a run takes of memory beside the desk: the head of its Picture records, the bytes of one row
+// of pixels, and the bytes of one item.
+#[derive(Drop)]
+struct Buffers {
+    head: Vec<u8>,
+    line: Vec<u8>,
+    room: Vec<u8>,
+}
+
+impl Buffers {
+    fn new(alloc: Global, width: u32, height: u32) -> Result<Buffers, NoMemory>
+        requires narrow { width ≤ 8192 }
+        requires low { height ≤ 8192 }
+        ensures head { IfOk result (λ b. b.head.items ≡ picture_head width height) }
+        ensures line { IfOk result (λ b. vec_len b.line ≡ 3 * width) }
+        ensures room { IfOk result (λ b. vec_len b.room ≡ 65536) }
+    {
+        let head = picture_head(alloc, width, height)?;
+        let line = vec![in alloc; 0u8; 3 * width as usize]?;
+        let room = vec![in alloc; 0u8; PIECE]?;
+        Ok(Buffers { head, line, room })
+    }
+}
+
+fn is_end(item: Item) -> bool
+    ensures { result ≡ is_end item }
+{
+    match item {
+        Item::End => true,
+        _ => false,
+    }
+}
+
+// The outcome where the feed gave no item.
+fn after_feed(fault: FeedFault) -> Outcome
+    ensures is { result ≡ after_feed fault }
+    ensures read { result ≡ Outcome.ReadFault → fault ≡ FeedFault.Failed }
+    ensures write { result ≡ Outcome.WriteFault → ⊥ }
+{
+    match fault {
+        FeedFault::Failed => Outcome::ReadFault,
+        FeedFault::Bad(fault) => Outcome::BadRecord(fault),
+    }
+}
+
+// Takes items up to End, a fault, or the bound, over a port whose frames are the desk's.
+fn run_items<F: Feed, P: FramePort, K: Sink>(
+    setup: &Setup,
+    desk: &mut Desk,
+    head: &[u8],
+    line: &mut [u8],
+    room: &mut [u8],
+    feed: &mut F,
+    port: &mut P,
+    out: &mut K,
+    bounds: Bounds,
+) -> Outcome
+    requires stands { Stands setup.now desk.old (P.state port.old) (opening setup.now) }
+    requires fresh { (picture_of desk.old).painted ≡ 0 }
+    requires fits { Fits setup.now }
+    requires head { head.now ≡ picture_head setup.now.width setup.now.height }
+    requires line { length line.old ≡ 3 * setup.now.width }
+    requires room { length room.old ≡ 65536 }
+    requires guests { F.guests feed.old ≡ length setup.now.guests }
+    requires pages { F.pages feed.old ≡ setup.now.pages }
+    requires port_guests { P.guests port.old ≡ length setup.now.guests }
+    requires port_pages { P.pages port.old ≡ setup.now.pages }
+    requires some { 1 ≤ bounds.items }
+    ensures ran { RanOver F.gives setup.now bounds.items feed.old feed.new result (K.written out.old) (K.written out.new) }
+    ensures keeps { K.keeps out.old out.new }
+    ensures read_later { F.faults feed.old ≤ F.faults feed.new }
+    ensures read { result ≡ Outcome.ReadFault → Rose (F.faults feed.old) (F.faults feed.new) }
+    ensures write_later { K.faults out.old ≤ K.faults out.new }
+    ensures write { result ≡ Outcome.WriteFault → Rose (K.faults out.old) (K.faults out.new) }
+{
+    for _n in 0..bounds.items {
+        let next = match feed.next(room) {
+            Ok(next) => next,
+            Err(fault) => return after_feed(fault),
+        };
+        let piece = &room[..next.len];
+        match write_item(desk, &next.item, piece, port, head, line, out) {
+            Ok(()) => {}
+            Err(_) => return Outcome::WriteFault,
+        }
+        if is_end(next.item) {
+            return Outcome::Done;
+        }
+    }
+    Outcome::TooLong
+}
+
+/// Runs a desk of this setup over a feed: takes items until it gives End, at most as many as the bounds
+/// say, and writes what they give as records of an output. All items before the last answer of the feed
+/// were stepped, and what they give was written whole, but where a write failed. `NoMemory` is answered
+/// before any item is taken, and nothing was written then. `ReadFault` and `WriteFault` are answered only
+/// where the feed's or the sink's count of faults rose. The setup keeps its rules, the feed is of its
+/// numbers of guests and pages, so is the port, whose frames are all zero and whose stores none waits,
+/// and at least one item may be taken.
+pub fn desk_run<F: Feed, P: FramePort, K: Sink>(
+    alloc: Global,
+    setup: &Setup,
+    feed: &mut F,
+    port: &mut P,
+    out: &mut K,
+    bounds: Bounds,
+) -> Outcome
+    requires sound { first_broken setup.now ≡ None }
+    requires fits { Fits setup.now }
+    requires guests { F.guests feed.old ≡ length setup.now.guests }
+    requires pages { F.pages feed.old ≡ setup.now.pages }
+    requires port_guests { P.guests port.old ≡ length setup.now.guests }
+    requires port_pages { P.pages port.old ≡ setup.now.pages }
+    requires zeros { AreZeros (P.guests port.old) (P.pages port.old) (P.state port.old) }
+    requires some { 1 ≤ bounds.items }
+    ensures ran { RanOver F.gives setup.now bounds.items feed.old feed.new result (K.written out.old) (K.written out.new) }
+    ensures keeps { K.keeps out.old out.new }
+    ensures read_later { F.faults feed.old ≤ F.faults feed.new }
+    ensures read { result ≡ Outcome.ReadFault → Rose (F.faults feed.old) (F.faults feed.new) }
+    ensures write_later { K.faults out.old ≤ K.faults out.new }
+    ensures write { result ≡ Outcome.WriteFault → Rose (K.faults out.old) (K.faults out.new) }
+{
+    let buffers = match Buffers::new(alloc, setup.width, setup.height) {
+        Ok(buffers) => buffers,
+        Err(_) => return Outcome::NoMemory,
+    };
+    let mut desk = match Desk::open(alloc, setup) {
+        Ok(desk) => desk,
+        Err(_) => return Outcome::NoMemory,
+    };
+    let Buffers {
+        head,
+        mut line,
+        mut room,
+    } = buffers;
+    run_items(
+        setup, &mut desk, &head, &mut line, &mut room, feed, port, out, bounds,
+    )
+}
