@@ -149,6 +149,17 @@ module _ (setup : Setup) (guest other : ℕ) (apart : other ≢ guest) where
       by_end (Some c) = refl
 
 -- a change of frames ends no session
+-- a change of one guest's frames leaves the sessions of the others
+pub store-other : (guest other : ℕ) → other ≢ guest → (delay page offset : ℕ) (bytes : List ℕ) (desk : DeskState)
+    → session_of other (take_store guest delay page offset bytes desk).desk ≡ session_of other desk
+store-other guest other apart delay page offset bytes desk = by_end (session_of guest desk).ended
+  where
+    by_end : (e : Option Cause) → session_of other (store_of_open guest delay page offset bytes e desk).desk ≡ session_of other desk
+    by_end None =
+        let stored : Session = record (session_of guest desk) { port = store (session_of guest desk).port delay page offset bytes } in
+        get_or-set_other desk.sessions guest other stored (fresh 0) apart
+    by_end (Some c) = refl
+
 pub store-ended : (guest delay page offset : ℕ) (bytes : List ℕ) (other : ℕ) (desk : DeskState) → other < length desk.sessions
     → (session_of other (take_store guest delay page offset bytes desk).desk).ended ≡ (session_of other desk).ended
 store-ended guest delay page offset bytes other desk known = by_end (session_of guest desk).ended

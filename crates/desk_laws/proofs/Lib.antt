@@ -1,5 +1,6 @@
 pub mod GridLemmas
 pub mod EndLemmas
+pub mod EdgeLemmas
 pub mod Cutting
 pub mod CheckLemmas
 pub mod CuttingLemmas
@@ -9,9 +10,11 @@ pub mod PaintLemmas
 pub mod PieceLemmas
 pub mod RowLemmas
 pub mod RuleLemmas
+pub mod ShareLemmas
+pub mod ListedLemmas
+pub mod LimitLemmas
 pub mod SoundLemmas
 pub mod UnitLemmas
-pub mod VerdictLemmas
 pub mod IdLemmas
 pub mod ChangeLemmas
 pub mod FollowLemmas

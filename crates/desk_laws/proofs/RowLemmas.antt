@@ -55,7 +55,7 @@ apart-push (b ∷ ids) id apart new =
 
 -- ---- one row replaced
 
-row-differs : (guest window : ℕ) (rows : List Row) → is_in (map id_of rows) (record { guest = guest; window = window }) ≡ false
+pub row-differs : (guest window : ℕ) (rows : List Row) → is_in (map id_of rows) (record { guest = guest; window = window }) ≡ false
     → All (λ row. is_row guest window row ≡ false) rows
 row-differs guest window [] out = All-nil (λ row. is_row guest window row ≡ false)
 row-differs guest window (row ∷ rows) out =
@@ -65,7 +65,7 @@ row-differs guest window (row ∷ rows) out =
     swapped : (row : Row) → same_row (record { guest = guest; window = window }) (id_of row) ≡ false → is_row guest window row ≡ false
     swapped row e = grind (arith, nat_tests)
 
-kept-others : (guest : ℕ) (new : Row) (rows : List Row) → is_in (map id_of rows) (record { guest = guest; window = new.window }) ≡ false
+pub kept-others : (guest : ℕ) (new : Row) (rows : List Row) → is_in (map id_of rows) (record { guest = guest; window = new.window }) ≡ false
     → map (replaced_in guest new) rows ≡ rows
 kept-others guest new rows out =
     map_fixed (replaced_in guest new) rows (All-weaker (λ row. is_row guest new.window row ≡ false) (λ row. replaced_in guest new row ≡ row) (λ row e. ap (λ b. if b then of_guest guest new else row) e) rows (row-differs guest new.window rows out))

@@ -1,12 +1,13 @@
 -- What the rules of a setup say of its numbers.
 use Rattle.std.proofs.Common.{◌≡◌, ℕ, zero, suc, nat_le, get_or, ◌+◌, ◌≤◌, Bool, true, false, List, [], ◌∷◌, length, None, refl}
-use Rattle.std.proofs.lemmas.Bool.{and_parts, leb-true, eqb-true}
+use Rattle.std.proofs.lemmas.Bool.{and_parts, leb-true}
 use Rattle.desk_laws.specs.declared.setup.Setup.{Setup}
 use Rattle.desk_laws.specs.Rules.{within, rules, first_false, first_broken}
 
 -- the ranges that a desktop needs
 pub record HasRanges (s : Setup) : Type 0 where
-  pub guests : length s.guests ≡ 1
+  pub some : 1 ≤ length s.guests
+  pub few : length s.guests ≤ 16
   pub wide : s.width ≤ 8192
   pub high : s.height ≤ 8192
   pub narrow : s.border ≤ 16
@@ -21,9 +22,13 @@ rule-holds n (false ∷ bs) k is = cc
 most : (least n m : ℕ) → within least n m ≡ true → m ≤ n
 most least n m is = leb-true m n (and_parts (nat_le least m) (nat_le m n) is).1
 
+least : (n m k : ℕ) → within n m k ≡ true → n ≤ k
+least n m k is = leb-true n k (and_parts (nat_le n k) (nat_le k m) is).0
+
 pub ranges-kept : (s : Setup) → first_broken s ≡ None → HasRanges s
 ranges-kept s is = record {
-  guests = eqb-true (length s.guests) 1 (rule-holds 1 (rules s) 0 is);
+  some = least 1 16 (length s.guests) (rule-holds 1 (rules s) 0 is);
+  few = most 1 16 (length s.guests) (rule-holds 1 (rules s) 0 is);
   wide = most 1 8192 s.width (rule-holds 1 (rules s) 1 is);
   high = most 1 8192 s.height (rule-holds 1 (rules s) 2 is);
   narrow = most 1 16 s.border (rule-holds 1 (rules s) 4 is);

@@ -11,114 +11,46 @@ use Rattle.desk_laws.specs.Sizes.{sizes_of}
 use Rattle.desk_laws.specs.Stage.{takes_item}
 use Rattle.desk_laws.specs.Items.{FedItem}
 use Rattle.desk_laws.specs.Stream.{StreamUnit, Cut, cut}
-use Rattle.desk_laws.specs.Rows.{Row, id_of, mine}
+use Rattle.desk_laws.specs.Rows.{id_of, mine}
 use Rattle.desk_laws.specs.Layers.{are_apart}
-use Rattle.desk_laws.specs.Scene.{Scene, Input, Took, Closing, Losing}
-use Rattle.desk_laws.specs.Frames.{Loads, load_all, store}
-use Rattle.desk_laws.specs.Effects.{Verdict, Ends, Greets, Goes, Reads, verdict, carried_out, changed, Cleared, Replaced, drawn_row, frame_places, points}
-use Rattle.desk_laws.specs.State.{DeskState, StepOutcome, session_of, opening, count_item}
-use Rattle.desk_laws.specs.Steps.{step, run, take_unit, take_units, take_bytes, end_session, unit_done, unit_of_open, ends, with_rest, rest_of_open, bytes_of_open, end_of_open, take_store, store_of_open}
+use Rattle.desk_laws.specs.Scene.{Scene, Input, Closing, Losing}
+use Rattle.desk_laws.specs.Frames.{load_all, store}
+use Rattle.desk_laws.specs.Effects.{Verdict, Ends, Greets, Goes, Reads, verdict, Cleared, Replaced, drawn_row, frame_places, points}
+use Rattle.desk_laws.specs.State.{DeskState, session_of, opening, count_item}
+use Rattle.desk_laws.specs.Steps.{step, run, take_unit, take_units, take_bytes, end_session, unit_of_open, with_rest, bytes_of_open, end_of_open, take_store, store_of_open}
 use Rattle.desk_laws.specs.Following.{LayersFollow}
+use Rattle.desk_laws.specs.Override.{KeepsLimits}
 use Rattle.desk_laws.specs.Endings.{IsGone}
+use Rattle.desk_laws.specs.Others.{OthersStay}
 use Rattle.desk_laws.specs.Sound.{IsSound, OpeningIsSound, StepsKeepSound, RunsAreSound}
-use Rattle.desk_laws.proofs.ChangeLemmas.{IsOfOne, window_of_unit, of_unit}
-use Rattle.desk_laws.proofs.FollowLemmas.{lists-follow}
-use Rattle.desk_laws.proofs.FollowChanges.{lists-follow_one, lists-follow_end, none-follow, replaced-ids}
+use Rattle.desk_laws.proofs.FollowChanges.{none-follow}
+use Rattle.desk_laws.proofs.ListedLemmas.{AreListed, done, rest-scene, bytes-listed, end-listed}
+use Rattle.desk_laws.proofs.LimitLemmas.{none-limited, bytes-limited, end-limited}
 use Rattle.desk_laws.proofs.OtherLemmas.{others-keep_rows}
-use Rattle.desk_laws.proofs.EndLemmas.{length-unit, length-rest, bytes-other, end-other, ends-leave_nothing, store-ended}
-
--- ---- the rows and lists of a scene
-
--- no two rows have one id, and the lists have the mapped rows
-record AreListed (scene : Scene) : Type 0 where
-  apart : are_apart (map id_of scene.rows) ≡ true
-  lists : LayersFollow scene.rows scene.layers
-
-module _ (setup : Setup) (guest : ℕ) where
-  ends-listed : (input : Input) (cause : Cause) (desk : DeskState) → AreListed desk.scene → AreListed (ends setup guest input cause desk).desk.scene
-  ends-listed input cause desk is =
-      let f = lists-follow_end guest desk.scene.rows desk.scene.layers is.apart is.lists in
-      record { apart = f.apart; lists = f.follow }
-
-  -- what a verdict does
-  abbrev done : StreamUnit → DeskState → Verdict → StepOutcome
-  done unit desk v =
-      let e = carried_out guest (session_of guest desk).minor desk.scene.rows (session_of guest desk).port v in
-      unit_done setup guest unit e e.cause desk
-
-  verdict-listed : (unit : StreamUnit) (window : ℕ) (desk : DeskState) (v : Verdict) → IsOfOne window (mine guest desk.scene.rows) v → AreListed desk.scene
-      → AreListed (done unit desk v).desk.scene
-  verdict-listed unit window desk (Ends cause) one is = ends-listed (Took unit) cause desk is
-  verdict-listed unit window desk (Greets minor answers) one is =
-      record { apart = is.apart; lists = lists-follow desk.scene.rows desk.scene.layers is.apart is.lists.once }
-  verdict-listed unit window desk (Goes change answers) one is =
-      let f = lists-follow_one guest window change desk.scene.rows desk.scene.layers is.apart is.lists one in
-      record { apart = f.apart; lists = f.follow }
-  verdict-listed unit window desk (Reads row area) one is =
-      let g : Loads = load_all (session_of guest desk).port (frame_places row.dump (points area)) in
-      let rows : List Row = changed guest (Replaced (drawn_row row area g.words)) desk.scene.rows in
-      let apart : are_apart (map id_of rows) ≡ true = ap are_apart (replaced-ids guest (drawn_row row area g.words) desk.scene.rows) ∙ is.apart in
-      record { apart = apart; lists = lists-follow rows desk.scene.layers apart is.lists.once }
-
-  unit-listed : (unit : StreamUnit) (desk : DeskState) → AreListed desk.scene → AreListed (take_unit setup guest unit desk).desk.scene
-  unit-listed unit desk is = by_end (session_of guest desk).ended
-    where
-      by_end : (e : Option Cause) → AreListed (unit_of_open setup guest unit e desk).desk.scene
-      by_end None =
-          verdict-listed unit (window_of_unit unit) desk (verdict (sizes_of setup) guest (session_of guest desk).minor (mine guest desk.scene.rows) unit)
-          (of_unit (sizes_of setup) guest (session_of guest desk).minor (mine guest desk.scene.rows) unit) is
-      by_end (Some cause) = is
-
-  units-listed : (units : List StreamUnit) (desk : DeskState) → AreListed desk.scene → AreListed (take_units setup guest units desk).desk.scene
-  units-listed [] desk is = is
-  units-listed (u ∷ units) desk is = units-listed units (take_unit setup guest u desk).desk (unit-listed u desk is)
-
-  rest-scene : (rest : List ℕ) (desk : DeskState) → (with_rest guest rest desk).scene ≡ desk.scene
-  rest-scene rest desk = by_end (session_of guest desk).ended
-    where
-      by_end : (e : Option Cause) → (rest_of_open guest rest e desk).scene ≡ desk.scene
-      by_end None = refl
-      by_end (Some cause) = refl
-
-  bytes-listed : (piece : List ℕ) (desk : DeskState) → AreListed desk.scene → AreListed (take_bytes setup guest piece desk).desk.scene
-  bytes-listed piece desk is = by_end (session_of guest desk).ended
-    where
-      c : Cut
-      c = cut (session_of guest desk).greeted ((session_of guest desk).rest ++ piece)
-
-      by_end : (e : Option Cause) → AreListed (bytes_of_open setup guest piece e desk).desk.scene
-      by_end None = units-listed c.units (with_rest guest c.rest desk) (subst (λ s. AreListed s) (sym (rest-scene c.rest desk)) is)
-      by_end (Some cause) = is
-
-  end-listed : (input : Input) (cause : Cause) (desk : DeskState) → AreListed desk.scene → AreListed (end_session setup guest input cause desk).desk.scene
-  end-listed input cause desk is = by_end (session_of guest desk).ended
-    where
-      by_end : (e : Option Cause) → AreListed (end_of_open setup guest input cause e desk).desk.scene
-      by_end None = ends-listed input cause desk is
-      by_end (Some c) = is
+use Rattle.desk_laws.proofs.EndLemmas.{length-unit, length-rest, bytes-other, end-other, store-other, ends-leave_nothing, store-ended}
 
 -- ---- the rows of others, and the number of sessions
 
 module _ (setup : Setup) (guest other : ℕ) (apart : other ≢ guest) where
-  verdict-keeps : (unit : StreamUnit) (desk : DeskState) (v : Verdict) → mine other (done setup guest unit desk v).desk.scene.rows ≡ mine other desk.scene.rows
+  pub verdict-keeps : (unit : StreamUnit) (desk : DeskState) (v : Verdict) → mine other (done setup guest unit desk v).desk.scene.rows ≡ mine other desk.scene.rows
   verdict-keeps unit desk (Ends cause) = others-keep_rows guest other Cleared desk.scene.rows apart
   verdict-keeps unit desk (Greets minor answers) = refl
   verdict-keeps unit desk (Goes change answers) = others-keep_rows guest other change desk.scene.rows apart
   verdict-keeps unit desk (Reads row area) =
       others-keep_rows guest other (Replaced (drawn_row row area (load_all (session_of guest desk).port (frame_places row.dump (points area))).words)) desk.scene.rows apart
 
-  unit-keeps : (unit : StreamUnit) (desk : DeskState) → mine other (take_unit setup guest unit desk).desk.scene.rows ≡ mine other desk.scene.rows
+  pub unit-keeps : (unit : StreamUnit) (desk : DeskState) → mine other (take_unit setup guest unit desk).desk.scene.rows ≡ mine other desk.scene.rows
   unit-keeps unit desk = by_end (session_of guest desk).ended
     where
       by_end : (e : Option Cause) → mine other (unit_of_open setup guest unit e desk).desk.scene.rows ≡ mine other desk.scene.rows
       by_end None = verdict-keeps unit desk (verdict (sizes_of setup) guest (session_of guest desk).minor (mine guest desk.scene.rows) unit)
       by_end (Some cause) = refl
 
-  units-keep : (units : List StreamUnit) (desk : DeskState) → mine other (take_units setup guest units desk).desk.scene.rows ≡ mine other desk.scene.rows
+  pub units-keep : (units : List StreamUnit) (desk : DeskState) → mine other (take_units setup guest units desk).desk.scene.rows ≡ mine other desk.scene.rows
   units-keep [] desk = refl
   units-keep (u ∷ units) desk = units-keep units (take_unit setup guest u desk).desk ∙ unit-keeps u desk
 
-  bytes-keep : (piece : List ℕ) (desk : DeskState) → mine other (take_bytes setup guest piece desk).desk.scene.rows ≡ mine other desk.scene.rows
+  pub bytes-keep : (piece : List ℕ) (desk : DeskState) → mine other (take_bytes setup guest piece desk).desk.scene.rows ≡ mine other desk.scene.rows
   bytes-keep piece desk = by_end (session_of guest desk).ended
     where
       c : Cut
@@ -128,7 +60,7 @@ module _ (setup : Setup) (guest other : ℕ) (apart : other ≢ guest) where
       by_end None = units-keep c.units (with_rest guest c.rest desk) ∙ ap (λ s. mine other s.rows) (rest-scene setup guest c.rest desk)
       by_end (Some cause) = refl
 
-  end-keeps : (input : Input) (cause : Cause) (desk : DeskState) → mine other (end_session setup guest input cause desk).desk.scene.rows ≡ mine other desk.scene.rows
+  pub end-keeps : (input : Input) (cause : Cause) (desk : DeskState) → mine other (end_session setup guest input cause desk).desk.scene.rows ≡ mine other desk.scene.rows
   end-keeps input cause desk = by_end (session_of guest desk).ended
     where
       by_end : (e : Option Cause) → mine other (end_of_open setup guest input cause e desk).desk.scene.rows ≡ mine other desk.scene.rows
@@ -136,11 +68,11 @@ module _ (setup : Setup) (guest other : ℕ) (apart : other ≢ guest) where
       by_end (Some c) = refl
 
 module _ (setup : Setup) (guest : ℕ) where
-  length-units : (units : List StreamUnit) (desk : DeskState) → length (take_units setup guest units desk).desk.sessions ≡ length desk.sessions
+  pub length-units : (units : List StreamUnit) (desk : DeskState) → length (take_units setup guest units desk).desk.sessions ≡ length desk.sessions
   length-units [] desk = refl
   length-units (u ∷ units) desk = length-units units (take_unit setup guest u desk).desk ∙ length-unit setup guest u desk
 
-  length-bytes : (piece : List ℕ) (desk : DeskState) → length (take_bytes setup guest piece desk).desk.sessions ≡ length desk.sessions
+  pub length-bytes : (piece : List ℕ) (desk : DeskState) → length (take_bytes setup guest piece desk).desk.sessions ≡ length desk.sessions
   length-bytes piece desk = by_end (session_of guest desk).ended
     where
       c : Cut
@@ -150,7 +82,7 @@ module _ (setup : Setup) (guest : ℕ) where
       by_end None = length-units c.units (with_rest guest c.rest desk) ∙ length-rest setup guest c.rest desk
       by_end (Some cause) = refl
 
-  length-end : (input : Input) (cause : Cause) (desk : DeskState) → length (end_session setup guest input cause desk).desk.sessions ≡ length desk.sessions
+  pub length-end : (input : Input) (cause : Cause) (desk : DeskState) → length (end_session setup guest input cause desk).desk.sessions ≡ length desk.sessions
   length-end input cause desk = by_end (session_of guest desk).ended
     where
       by_end : (e : Option Cause) → length (end_of_open setup guest input cause e desk).desk.sessions ≡ length desk.sessions
@@ -167,10 +99,12 @@ record IsOfGuest (guest : ℕ) (desk after : DeskState) : Type 0 where
   over : (cause : Cause) → (session_of guest desk).ended ≡ Some cause → after ≡ desk
   gone : (cause : Cause) → guest < length desk.sessions → (session_of guest desk).ended ≡ None → (session_of guest after).ended ≡ Some cause → IsGone guest after
 
-item-sound : (guest : ℕ) (desk after : DeskState) → IsSound desk → IsOfGuest guest desk after → AreListed after.scene → IsSound after
-item-sound guest desk after is of listed = record {
+item-sound : (setup : Setup) (guest : ℕ) (desk after : DeskState) → IsSound setup desk → IsOfGuest guest desk after → AreListed after.scene
+    → KeepsLimits (sizes_of setup) after.scene.rows → IsSound setup after
+item-sound setup guest desk after is of listed limits = record {
   apart = listed.apart;
   lists = listed.lists;
+  limits = limits;
   gone = λ other cause known over. by_guest other cause (other == guest) refl (subst (λ n. other < n) of.sessions known) over;
 }
   where
@@ -193,11 +127,11 @@ item-sound guest desk after is of listed = record {
 -- ---- the laws
 
 -- the count of items says nothing of this
-counted-sound : (state : DeskState) → IsSound state → IsSound (count_item state)
-counted-sound state is = record { apart = is.apart; lists = is.lists; gone = is.gone }
+counted-sound : (setup : Setup) (state : DeskState) → IsSound setup state → IsSound setup (count_item state)
+counted-sound setup state is = record { apart = is.apart; lists = is.lists; gone = is.gone; limits = is.limits }
 
 pub opening-is_sound : OpeningIsSound
-opening-is_sound setup = record { apart = refl; lists = none-follow; gone = λ guest cause known over. refl }
+opening-is_sound setup = record { apart = refl; lists = none-follow; gone = λ guest cause known over. refl; limits = none-limited (sizes_of setup) }
 
 stored-scene : (guest delay page offset : ℕ) (bytes : List ℕ) (e : Option Cause) (desk : DeskState) → (store_of_open guest delay page offset bytes e desk).desk.scene ≡ desk.scene
 stored-scene guest delay page offset bytes None desk = refl
@@ -210,8 +144,8 @@ stored-sessions guest delay page offset bytes None desk =
 stored-sessions guest delay page offset bytes (Some cause) desk = refl
 
 -- a change of frames changes no row and no list, and ends no session
-stored-sound : (guest delay page offset : ℕ) (bytes : List ℕ) (desk : DeskState) → IsSound desk → IsSound (take_store guest delay page offset bytes desk).desk
-stored-sound guest delay page offset bytes desk is =
+stored-sound : (setup : Setup) (guest delay page offset : ℕ) (bytes : List ℕ) (desk : DeskState) → IsSound setup desk → IsSound setup (take_store guest delay page offset bytes desk).desk
+stored-sound setup guest delay page offset bytes desk is =
     let scene = stored-scene guest delay page offset bytes (session_of guest desk).ended desk in
     let sessions = stored-sessions guest delay page offset bytes (session_of guest desk).ended desk in
     record {
@@ -221,11 +155,12 @@ stored-sound guest delay page offset bytes desk is =
           let within : other < length desk.sessions = subst (λ (n : ℕ). other < n) sessions known in
           subst (λ (s : Scene). mine other s.rows ≡ []) (sym scene)
           (is.gone other cause within (sym (store-ended guest delay page offset bytes other desk within) ∙ over));
+      limits = subst (λ (s : Scene). KeepsLimits (sizes_of setup) s.rows) (sym scene) is.limits;
     }
 
 pub steps-keep_sound : StepsKeepSound
 steps-keep_sound setup (item.Bytes g) piece state taken is =
-    item-sound g (count_item state) (take_bytes setup g piece (count_item state)).desk (counted-sound state is)
+    item-sound setup g (count_item state) (take_bytes setup g piece (count_item state)).desk (counted-sound setup state is)
     (record {
       sessions = length-bytes setup g piece (count_item state);
       session = λ other apart. bytes-other setup g other apart piece (count_item state);
@@ -234,8 +169,9 @@ steps-keep_sound setup (item.Bytes g) piece state taken is =
       gone = λ cause known e over. ends-leave_nothing setup (item.Bytes g) piece g cause state known e over;
     })
     (bytes-listed setup g piece (count_item state) (record { apart = is.apart; lists = is.lists }))
+    (bytes-limited setup g piece (count_item state) (record { apart = is.apart; lists = is.lists }) is.limits)
 steps-keep_sound setup (item.Closed g) piece state taken is =
-    item-sound g (count_item state) (end_session setup g Closing (StreamEnded 0 0) (count_item state)).desk (counted-sound state is)
+    item-sound setup g (count_item state) (end_session setup g Closing (StreamEnded 0 0) (count_item state)).desk (counted-sound setup state is)
     (record {
       sessions = length-end setup g Closing (StreamEnded 0 0) (count_item state);
       session = λ other apart. end-other setup g other apart Closing (StreamEnded 0 0) (count_item state);
@@ -244,8 +180,9 @@ steps-keep_sound setup (item.Closed g) piece state taken is =
       gone = λ cause known e over. ends-leave_nothing setup (item.Closed g) piece g cause state known e over;
     })
     (end-listed setup g Closing (StreamEnded 0 0) (count_item state) (record { apart = is.apart; lists = is.lists }))
+    (end-limited setup g Closing (StreamEnded 0 0) (count_item state) is.limits)
 steps-keep_sound setup (item.Lost g) piece state taken is =
-    item-sound g (count_item state) (end_session setup g Losing (LinkFailed 0 0) (count_item state)).desk (counted-sound state is)
+    item-sound setup g (count_item state) (end_session setup g Losing (LinkFailed 0 0) (count_item state)).desk (counted-sound setup state is)
     (record {
       sessions = length-end setup g Losing (LinkFailed 0 0) (count_item state);
       session = λ other apart. end-other setup g other apart Losing (LinkFailed 0 0) (count_item state);
@@ -254,13 +191,14 @@ steps-keep_sound setup (item.Lost g) piece state taken is =
       gone = λ cause known e over. ends-leave_nothing setup (item.Lost g) piece g cause state known e over;
     })
     (end-listed setup g Losing (LinkFailed 0 0) (count_item state) (record { apart = is.apart; lists = is.lists }))
-steps-keep_sound setup (item.Store g delay page offset) piece state taken is = stored-sound g delay page offset piece (count_item state) (counted-sound state is)
-steps-keep_sound setup item.Snap piece state taken is = counted-sound state is
-steps-keep_sound setup item.End piece state taken is = counted-sound state is
+    (end-limited setup g Losing (LinkFailed 0 0) (count_item state) is.limits)
+steps-keep_sound setup (item.Store g delay page offset) piece state taken is = stored-sound setup g delay page offset piece (count_item state) (counted-sound setup state is)
+steps-keep_sound setup item.Snap piece state taken is = counted-sound setup state is
+steps-keep_sound setup item.End piece state taken is = counted-sound setup state is
 steps-keep_sound setup item.Idle piece state taken is = is
 steps-keep_sound setup i piece state taken is = cc
 
-runs-sound : (setup : Setup) (items : List FedItem) (state : DeskState) → All (λ i. takes_item i.item ≡ true) items → IsSound state → IsSound (run setup items state).desk
+runs-sound : (setup : Setup) (items : List FedItem) (state : DeskState) → All (λ i. takes_item i.item ≡ true) items → IsSound setup state → IsSound setup (run setup items state).desk
 runs-sound setup [] state taken is = is
 runs-sound setup (i ∷ items) state taken is =
     runs-sound setup items (step setup i.item i.piece state).desk (All-tail (λ x. takes_item x.item ≡ true) i items taken)
@@ -268,3 +206,32 @@ runs-sound setup (i ∷ items) state taken is =
 
 pub runs-are_sound : RunsAreSound
 runs-are_sound setup items taken = runs-sound setup items (opening setup) taken (opening-is_sound setup)
+
+-- ---- what an item of one guest leaves of the others
+
+other-than : (guest g other : ℕ) → (g == guest) ≡ true → other ≢ guest → other ≢ g
+other-than guest g other own apart = λ same. apart (same ∙ eqb-true g guest own)
+
+pub others-stay : OthersStay
+others-stay setup (item.Bytes g) piece guest other state own apart =
+    let far = other-than guest g other own apart in
+    record { rows = bytes-keep setup g other far piece (count_item state); session = bytes-other setup g other far piece (count_item state) }
+others-stay setup (item.Closed g) piece guest other state own apart =
+    let far = other-than guest g other own apart in
+    record {
+      rows = end-keeps setup g other far Closing (StreamEnded 0 0) (count_item state);
+      session = end-other setup g other far Closing (StreamEnded 0 0) (count_item state);
+    }
+others-stay setup (item.Lost g) piece guest other state own apart =
+    let far = other-than guest g other own apart in
+    record {
+      rows = end-keeps setup g other far Losing (LinkFailed 0 0) (count_item state);
+      session = end-other setup g other far Losing (LinkFailed 0 0) (count_item state);
+    }
+others-stay setup (item.Store g delay page offset) piece guest other state own apart =
+    let far = other-than guest g other own apart in
+    record {
+      rows = ap (λ (s : Scene). mine other s.rows) (stored-scene g delay page offset piece (session_of g state).ended (count_item state));
+      session = store-other g other far delay page offset piece (count_item state);
+    }
+others-stay setup i piece guest other state own apart = absurd (cc)

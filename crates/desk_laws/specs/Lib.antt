@@ -24,7 +24,10 @@ pub mod Events
 pub mod Steps
 pub mod Pieces
 pub mod Endings
+pub mod Others
+pub mod Edges
 pub mod Sound
 pub mod WorkedRows
 pub mod WorkedStreams
 pub mod WorkedFrames
+pub mod WorkedGuests

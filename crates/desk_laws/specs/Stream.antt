@@ -7,7 +7,6 @@ use Rattle.gui_wire.specs.AgentMessages.{rule_of, fits_rule}
 use Rattle.gui_wire.specs.Headers.{header_at}
 use Rattle.gui_wire.specs.Words.{word_at}
 use Rattle.desk_laws.specs.declared.cause.Cause.{Cause}
-use Rattle.desk_laws.specs.Stage.{takes_type}
 use Rattle.desk_laws.specs.declared.cause.Cause.TheVariants.{BadType, BadLength, ClipTooLong}
 
 -- what one step takes off a guest's bytes
@@ -30,9 +29,9 @@ fault_by (Exactly n) header = if fits_rule (Exactly n) header.len then None else
 fault_by Clip header = if nat_lt 256000 header.len then Some (ClipTooLong header.len 0) else None
 fault_by Dump header = if fits_rule Dump header.len then None else Some (BadLength header.len 0)
 
--- the fault of a header alone: its type isn't taken, or it has the fault of its type's rule
+-- the fault of a header alone
 abbrev pub head_fault : Header → Option Cause
-head_fault header = if takes_type header.kind then fault_by (rule_of header.kind) header else Some (BadType header.kind 0)
+head_fault header = fault_by (rule_of header.kind) header
 
 -- the unit of a header and the bytes behind it
 abbrev pub front_of : Option Cause → Header → List ℕ → Front

@@ -2,6 +2,8 @@
 ghost use Rattle.desk_laws.specs.Cutting.{CutsInPieces};
 ghost use Rattle.desk_laws.specs.Pieces.{PiecesJoin};
 ghost use Rattle.desk_laws.specs.Endings.{EndsLeaveNothing, EndedDoesNothing};
+ghost use Rattle.desk_laws.specs.Others.{OthersStay};
+ghost use Rattle.desk_laws.specs.Edges.{PicturesKeepEdges};
 ghost use Rattle.desk_laws.specs.Sound.{OpeningIsSound, StepsKeepSound, RunsAreSound};
 ghost use Rattle.desk_laws.specs.Following.{MessagesChangeOne, MessagesReadOne, OthersKeepRows, ListsFollowOne, ListsFollowEnd};
 
@@ -40,9 +42,25 @@ pub fn law_ended_session()
     ensures over { EndedDoesNothing }
 {}
 
+/// Does nothing. Its contract says that an item of one guest (its bytes, whatever they are, their end,
+/// a change of its frames, its lost link) leaves of every other guest the windows with all that is
+/// kept of them, the session with its end and the bytes that wait, and the frames, as they were. So
+/// another guest's end changes nobody else's windows.
+pub fn law_of_others()
+    ensures { OthersStay }
+{}
+
+/// Does nothing. Its contract says that two pixels of a picture that touch sideways, upright or
+/// cornerwise never show the contents of two windows: a ring of at least one pixel lies between.
+pub fn law_of_edges()
+    ensures { PicturesKeepEdges }
+{}
+
 /// Does nothing. Its contract says of every state that a run of the items that there are so far
 /// reaches: no two windows on the desktop have one guest and number, the lists of the layers have
-/// exactly the mapped windows, each once, and a guest whose session has ended has no window.
+/// exactly the mapped windows, each once, a guest whose session has ended has no window, each mapped
+/// override window lies on the desktop with its border, and those of one guest have together at most
+/// the setup's percent of the desktop's area.
 pub fn law_of_sound_states()
     ensures opening { OpeningIsSound }
     ensures step { StepsKeepSound }

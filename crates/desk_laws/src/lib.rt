@@ -22,8 +22,9 @@ pub use ids::Ids;
 pub use input::GIn;
 pub use item::Item;
 pub use law::{
-    law_ended_session, law_of_changes, law_of_cutting, law_of_pieces, law_of_sound_states,
+    law_ended_session, law_of_changes, law_of_cutting, law_of_edges, law_of_others, law_of_pieces,
+    law_of_sound_states,
 };
 pub use row_id::RowId;
 pub use setup::{GuestSetup, Guests, Name, Setup};
-pub use worked::{worked_frames, worked_rows, worked_streams};
+pub use worked::{worked_frames, worked_guests, worked_rows, worked_streams};

@@ -2,6 +2,7 @@
 ghost use Rattle.desk_laws.specs.WorkedRows.{EmptyDesktop, OneWindow, WindowOffTheCorner, WindowCreatedTwice};
 ghost use Rattle.desk_laws.specs.WorkedStreams.{OneByteAtATime, WidthOutOfRange, WidthBroughtIntoRange, ReferencePastThePages, DumpAcknowledged, DumpOfAnOldAgent, DumpOfSixteenBits, WrongVersion, EarlyEnd, ClipboardTooLong, WindowLimit};
 ghost use Rattle.desk_laws.specs.WorkedFrames.{FrameChangesBetweenLoads, LoadedOnce, ContentsShown, ReportOutsideTheDump, NothingLoadedOutside, ReportOutOfRange, CutAndGrown, TooFewTiles};
+ghost use Rattle.desk_laws.specs.WorkedGuests.{TwoWindows, OneGuestEnds, OverrideAreaLimit, OverrideAreasTogether, OverrideMovedInside, FullScreenTold, FullScreenStays, MinimizedIsHidden};
 
 /// The definitions give the small runs that were worked by hand. It does nothing.
 pub fn worked_rows()
@@ -36,4 +37,17 @@ pub fn worked_frames()
     ensures report_out_of_range { ReportOutOfRange }
     ensures cut_and_grown { CutAndGrown }
     ensures too_few_tiles { TooFewTiles }
+{}
+
+/// The definitions give the small runs of several guests, and of override and full-screen windows,
+/// that were worked by hand. It does nothing.
+pub fn worked_guests()
+    ensures two_windows { TwoWindows }
+    ensures one_guest_ends { OneGuestEnds }
+    ensures override_area_limit { OverrideAreaLimit }
+    ensures override_areas_together { OverrideAreasTogether }
+    ensures override_moved_inside { OverrideMovedInside }
+    ensures full_screen_told { FullScreenTold }
+    ensures full_screen_stays { FullScreenStays }
+    ensures minimized_is_hidden { MinimizedIsHidden }
 {}
