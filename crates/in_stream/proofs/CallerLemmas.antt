@@ -14,7 +14,6 @@ use Rattle.gui_wire.specs.Headers.{header_at}
 use Rattle.desk_laws.specs.declared.cause.Cause.{Cause}
 use Rattle.desk_laws.specs.declared.cause.Cause.TheVariants.{BadType, BadLength, ClipTooLong}
 use Rattle.desk_laws.specs.Stream as stream
-use Rattle.desk_laws.specs.Stage.{takes_type}
 use Rattle.desk_laws.specs.Stream.{StreamUnit, Front, Wait, Fault, Takes, front_by, front_of, fault_by, head_fault}
 use Rattle.desk_laws.proofs.Cutting.{front_by-whole_header, takes-whole_header}
 use Rattle.in_stream.specs.Received.{Received, StandsFor}
@@ -214,10 +213,6 @@ cause_by (Exactly n) h e = rw e (length_cause (fits_rule (Exactly n) h.len) h)
 cause_by Clip h e = rw e (clip_cause (nat_lt 256000 h.len) h)
 cause_by Dump h e = rw e (length_cause (fits_rule Dump h.len) h)
 
-cause_if : (taken : Bool) (h : Header) → IsCauseOf h (if taken then fault_by (rule_of h.kind) h else Some (BadType h.kind 0))
-cause_if true h = cause_by (rule_of h.kind) h refl
-cause_if false h = inl refl
-
 fault_from : (c : Option Cause) (h : Header) (xs : List ℕ) (d : Cause) → front_of c h xs ≡ Fault d → c ≡ Some d
 fault_from (Some c) h xs d e = cc
 fault_from None h xs d e = grind (arith, nat_tests)
@@ -230,7 +225,7 @@ fault-is : (r : List ℕ) (d : Cause) → front_by head_fault true r ≡ Fault d
 fault-is r d e =
     let f : head_fault (header_at r) ≡ Some d =
     fault_from (head_fault (header_at r)) (header_at r) (drop 12 r) d (sym (front_by-whole_header head_fault r (fault-long r d e)) ∙ e) in
-    subst (IsCauseOf (header_at r)) f (cause_if (takes_type (header_at r).kind) (header_at r))
+    subst (IsCauseOf (header_at r)) f (cause_by (rule_of (header_at r).kind) (header_at r) refl)
 
 -- what is shown for a cause: the fault that tells it, or that the clipboard data is too long
 abbrev IsToldFor : Header → Cause → Shown → Type 0

@@ -10,9 +10,8 @@ use Rattle.gui_wire.specs.declared.WireFault.TheVariants.{Length}
 use Rattle.gui_wire.specs.AgentMessages.{rules, rule_in, rule_of, fits_rule}
 use Rattle.gui_wire.specs.Headers.{header_at, head_result}
 use Rattle.desk_laws.specs.declared.cause.Cause.{Cause}
-use Rattle.desk_laws.specs.declared.cause.Cause.TheVariants.{BadType, BadLength, ClipTooLong}
+use Rattle.desk_laws.specs.declared.cause.Cause.TheVariants.{BadLength, ClipTooLong}
 use Rattle.desk_laws.specs.Stream as stream
-use Rattle.desk_laws.specs.Stage.{takes_type}
 use Rattle.desk_laws.specs.Stream.{StreamUnit, Front, Wait, Fault, Takes, front_by, front_of, fault_by, head_fault}
 use Rattle.desk_laws.proofs.Cutting.{front_by-whole_header}
 use Rattle.in_stream.proofs.StandsLemmas.{empty, stands-length, stands-header, stands-short}
@@ -20,7 +19,7 @@ use Rattle.in_stream.proofs.TakingLemmas.{passes-short, passes-long, lt_or_le}
 use Rattle.in_stream.specs.Taking.{passes, room}
 use Rattle.in_stream.specs.Received.{Received, StandsFor, longest}
 use Rattle.in_stream.specs.Invariant.{IsSound}
-use Rattle.in_stream.specs.Shown.{Whole, Bad, ClipLong, Skipped, Skipping, Need, is_passed_over, lacking, waiting, faulty, complete, shown_of, shown, checked_if, checked_head}
+use Rattle.in_stream.specs.Shown.{Whole, Bad, ClipLong, Skipped, Skipping, Need, is_passed_over, lacking, waiting, faulty, complete, shown_of, shown}
 
 -- ---- rules by type
 
@@ -66,10 +65,6 @@ tells_bad_by (Exactly n) h f e bad = rw e (length_bad (fits_rule (Exactly n) h.l
 tells_bad_by Clip h f e bad = let b = rw e at bad in absurd cc
 tells_bad_by Dump h f e bad = rw e (length_bad (fits_rule Dump h.len) h f (rw e at bad))
 
-tells_bad_if : (taken : Bool) (h : Header) (f : WireFault) → checked_if taken h ≡ Err f → TellsBad h f (if taken then fault_by (rule_of h.kind) h else Some (BadType h.kind 0))
-tells_bad_if true h f bad = tells_bad_by (rule_of h.kind) h f refl bad
-tells_bad_if false h f bad = cc
-
 length_good : (fits : Bool) (h : Header) → checked fits h ≡ Ok tt → (if fits then None else Some (BadLength h.len 0)) ≡ None
 length_good true h good = refl
 length_good false h good = cc
@@ -80,18 +75,13 @@ faultless_by (Exactly n) h e t good short = rw e (length_good (fits_rule (Exactl
 faultless_by Clip h e t good short = rw e (let le : h.len ≤ 256000 = short t in grind (arith, nat_tests))
 faultless_by Dump h e t good short = rw e (length_good (fits_rule Dump h.len) h (rw e at good))
 
-faultless_if : (taken : Bool) (h : Header) → checked_if taken h ≡ Ok tt → (h.kind ≡ 140 → h.len ≤ 256000) → (if taken then fault_by (rule_of h.kind) h else Some (BadType h.kind 0)) ≡ None
-faultless_if true h good short = faultless_by (rule_of h.kind) h refl (typed h.kind) good short
-faultless_if false h good short = cc
-
-pub faultless : (h : Header) → checked_head h ≡ Ok tt → (h.kind ≡ 140 → h.len ≤ 256000) → head_fault h ≡ None
-faultless h good short = faultless_if (takes_type h.kind) h good short
+pub faultless : (h : Header) → head_result h ≡ Ok tt → (h.kind ≡ 140 → h.len ≤ 256000) → head_fault h ≡ None
+faultless h good short = faultless_by (rule_of h.kind) h refl (typed h.kind) good short
 
 clip_fault : (h : Header) → h.kind ≡ 140 → 256000 < h.len → head_fault h ≡ Some (ClipTooLong h.len 0)
 clip_fault h e long =
-    let t : takes_type h.kind ≡ true = ap takes_type e in
     let c : rule_of h.kind ≡ Clip = ap rule_of e in
-    rw (t, c) (grind (arith, nat_tests))
+    rw c (grind (arith, nat_tests))
 
 -- ---- what is shown
 
@@ -106,9 +96,9 @@ bad_by : (c : Option Cause) (r xs : List ℕ) (f : WireFault) → TellsBad (head
 bad_by None r xs f t = absurd t
 bad_by (Some c) r xs f t = t
 
-pub shown-bad : (r : List ℕ) (f : WireFault) → 12 ≤ length r → checked_head (header_at r) ≡ Err f → shown r ≡ Bad (header_at r) f
+pub shown-bad : (r : List ℕ) (f : WireFault) → 12 ≤ length r → head_result (header_at r) ≡ Err f → shown r ≡ Bad (header_at r) f
 shown-bad r f long bad =
-    shown-header r long ∙ bad_by (head_fault (header_at r)) r (drop 12 r) f (tells_bad_if (takes_type (header_at r).kind) (header_at r) f bad)
+    shown-header r long ∙ bad_by (head_fault (header_at r)) r (drop 12 r) f (tells_bad_by (rule_of (header_at r).kind) (header_at r) f refl bad)
 
 pub shown-clip_long : (r : List ℕ) → 12 ≤ length r → (header_at r).kind ≡ 140 → 256000 < (header_at r).len → shown r ≡ ClipLong (header_at r)
 shown-clip_long r long e over =
@@ -165,10 +155,10 @@ front-short s r sound h short =
     let l : length r ≡ length s.held = ap length e in
     ap (λ n. Need (12 - n)) (sym l) ∙ sym (shown-short r (omega arith))
 
-pub front-bad : (s : Received) (r : List ℕ) (f : WireFault) → StandsFor s r → 12 ≤ length s.held → checked_head (header_at s.held) ≡ Err f → Bad (header_at s.held) f ≡ shown r
+pub front-bad : (s : Received) (r : List ℕ) (f : WireFault) → StandsFor s r → 12 ≤ length s.held → head_result (header_at s.held) ≡ Err f → Bad (header_at s.held) f ≡ shown r
 front-bad s r f h long bad =
     let e : header_at r ≡ header_at s.held = stands-header s r long h in
-    ap (λ x. Bad x f) (sym e) ∙ sym (shown-bad r f (omega (arith, stands-length s r h)) (ap checked_head e ∙ bad))
+    ap (λ x. Bad x f) (sym e) ∙ sym (shown-bad r f (omega (arith, stands-length s r h)) (ap head_result e ∙ bad))
 
 pub front-clip_long : (s : Received) (r : List ℕ) → StandsFor s r → 12 ≤ length s.held → (header_at s.held).kind ≡ 140 → 256000 < (header_at s.held).len → ClipLong (header_at s.held) ≡ shown r
 front-clip_long s r h long clip over =
@@ -185,12 +175,8 @@ short_by (Exactly n) h e t none over = let b = rw e at none in grind (arith, nat
 short_by Clip h e t none over = let b = rw e at none in grind (arith, nat_tests)
 short_by Dump h e t none over = let b = rw e at none in grind (arith, nat_tests)
 
-short_if : (taken : Bool) (h : Header) → (if taken then fault_by (rule_of h.kind) h else Some (BadType h.kind 0)) ≡ None → is_passed_over h ≡ false → h.len ≤ 393232
-short_if true h none over = short_by (rule_of h.kind) h refl (typed h.kind) none over
-short_if false h none over = cc
-
 short_body : (h : Header) → head_fault h ≡ None → is_passed_over h ≡ false → h.len ≤ 393232
-short_body h none over = short_if (takes_type h.kind) h none over
+short_body h none over = short_by (rule_of h.kind) h refl (typed h.kind) none over
 
 waits-faultless : (c : Option Cause) (h : Header) (xs : List ℕ) → front_of c h xs ≡ Wait → (c ≡ None) × (length xs < h.len)
 waits-faultless (Some c) h xs e = cc

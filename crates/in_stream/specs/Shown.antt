@@ -1,12 +1,11 @@
 -- What a receive buffer shows of the bytes that it stands for.
-use Rattle.std.specs.Prelude.{ℕ, ◌+◌, ◌-◌, Bool, true, false, ◌&&◌, ◌==◌, nat_lt, nat_le, List, length, Option, Some, None, Result, Err, if◌then◌else◌}
+use Rattle.std.specs.Prelude.{ℕ, ◌+◌, ◌-◌, Bool, true, false, ◌&&◌, ◌==◌, nat_lt, nat_le, List, length, Option, Some, None, if◌then◌else◌}
 use Rattle.gui_wire.specs.declared.Header.{Header}
 use Rattle.gui_wire.specs.declared.WireFault.{WireFault}
 use Rattle.gui_wire.specs.declared.WireFault.TheVariants.{Kind, Length}
-use Rattle.gui_wire.specs.Headers.{header_at, head_result}
+use Rattle.gui_wire.specs.Headers.{header_at}
 use Rattle.desk_laws.specs.declared.cause.Cause.{Cause}
 use Rattle.desk_laws.specs.declared.cause.Cause.TheVariants.{BadType, BadLength}
-use Rattle.desk_laws.specs.Stage.{takes_type}
 use Rattle.desk_laws.specs.Stream as stream
 use Rattle.desk_laws.specs.Stream.{StreamUnit, Front, Wait, Fault, Takes, front_by, head_fault}
 
@@ -22,15 +21,6 @@ pub data Shown : Type 0 where
 -- whether a header announces clipboard data whose body isn't kept, and is passed over
 abbrev pub is_passed_over : Header → Bool
 is_passed_over header = header.kind == 140 && (nat_lt 65000 header.len && nat_le header.len 256000)
-
--- the check of a header whose type is taken, or isn't
-abbrev pub checked_if : Bool → Header → Result (Unit {0}) WireFault
-checked_if true header = head_result header
-checked_if false header = Err (Kind header.kind)
-
--- the check of a header: so far some types aren't taken
-abbrev pub checked_head : Header → Result (Unit {0}) WireFault
-checked_head header = checked_if (takes_type header.kind) header
 
 -- how many bytes the header, or the message that it begins, lacks
 abbrev pub lacking : List ℕ → ℕ

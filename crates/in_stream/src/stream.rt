@@ -3,15 +3,14 @@ ghost use Rattle.std.specs.Prelude.{◌≡◌, ℕ, ◌+◌, ◌-◌, ◌<◌, �
 ghost use Rattle.gui_wire.specs.Headers.{header_at};
 ghost use Rattle.desk_laws.specs.Stream.{Wait, front_by, head_fault};
 ghost use Rattle.in_stream.specs.Received.{StandsFor};
-ghost use Rattle.desk_laws.specs.Stage.{takes_type};
-ghost use Rattle.in_stream.specs.Shown.{is_passed_over, shown, word_shown, checked_head};
+ghost use Rattle.in_stream.specs.Shown.{is_passed_over, shown, word_shown};
 ghost use Rattle.in_stream.specs.Seen.{seen};
 ghost use Rattle.in_stream.specs.Taking.{room, to_skip, kept, HasUnit, DropsUnit};
 
 use crate::Front;
 use crate::buffer::Buffer;
 use gui_num::NoMemory;
-use gui_wire::{Header, WireFault, head_check, header_of};
+use gui_wire::{Header, head_check, header_of};
 use std::alloc::Global;
 use std::marker::Model;
 
@@ -20,8 +19,6 @@ const WORD_LEN: usize = 4;
 const HEADER_LEN: usize = 12;
 
 const CLIPBOARD_DATA: u32 = 140;
-
-const WINDOW_FLAGS: u32 = 145;
 
 const LONGEST_CLIP_KEPT: u32 = 65_000;
 
@@ -122,7 +119,7 @@ impl InStream {
             };
         }
         let header = header_of(held);
-        if let Err(fault) = head_checked(header) {
+        if let Err(fault) = head_check(header) {
             return Front::Bad { header, fault };
         }
         if header.kind == CLIPBOARD_DATA && header.len > LONGEST_CLIP {
@@ -167,24 +164,6 @@ impl InStream {
         self.buffer.cut(HEADER_LEN, here);
         self.skipped += here + there;
         there
-    }
-}
-
-// Whether messages of this type are taken, so far.
-fn takes_type(kind: u32) -> bool
-    ensures { result ≡ takes_type kind }
-{
-    kind != WINDOW_FLAGS
-}
-
-// Why a header is refused: its type isn't taken, or its length doesn't fit it.
-fn head_checked(header: Header) -> Result<(), WireFault>
-    ensures { result ≡ checked_head header }
-{
-    if takes_type(header.kind) {
-        head_check(header)
-    } else {
-        Err(WireFault::Kind(header.kind))
     }
 }
 

@@ -16,6 +16,10 @@ const MAP: [u8; 20] = [
     0x84, 0, 0, 0, 1, 0, 0, 0, 8, 0, 0, 0, 0, 0, 0, 0, 0, 0, 0, 0,
 ];
 
+const FLAGS: [u8; 20] = [
+    0x91, 0, 0, 0, 1, 0, 0, 0, 8, 0, 0, 0, 4, 0, 0, 0, 0, 0, 0, 0,
+];
+
 // Clipboard data of 65,001 bytes.
 const CLIP_HEAD: [u8; 12] = [0x8c, 0, 0, 0, 1, 0, 0, 0, 0xe9, 0xfd, 0, 0];
 
@@ -117,8 +121,10 @@ fn shows_messages_whole(rt: HostRuntime) -> Result<(), NoMemory> {
     assert!(rt; matches!(stream.front(), Front::Need { more: 24 }));
     assert!(rt; push_each(&mut stream, &CREATE[12..]));
     assert!(rt; push_each(&mut stream, &MAP));
+    assert!(rt; push_each(&mut stream, &FLAGS));
     assert!(rt; takes_message(&mut stream, 130, &CREATE[12..]));
     assert!(rt; takes_message(&mut stream, 132, &MAP[12..]));
+    assert!(rt; takes_message(&mut stream, 145, &FLAGS[12..]));
     assert!(rt; matches!(stream.front(), Front::Need { more: 12 }));
     Ok(())
 }

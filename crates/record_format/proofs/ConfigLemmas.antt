@@ -12,7 +12,7 @@ use Rattle.gui_wire.specs.Words.{word, words}
 use Rattle.gui_wire.proofs.WordLemmas.{word_at-word}
 use Rattle.desk_laws.specs.declared.setup.GuestSetup.{GuestSetup}
 use Rattle.desk_laws.specs.declared.setup.Setup.{Setup}
-use Rattle.desk_laws.specs.Rules.{first_broken, Fits}
+use Rattle.desk_laws.specs.Rules.{within, first_broken, Fits}
 use Rattle.record_format.specs.Config.{Wrong, Rule, number_at, named, name_of, guest_of, guests_of, with_guests, ◌>>=◌, head_wrong, setup_at, kept, config_of, config_len, guest_spelling, head_spelling, config_spelling}
 use Rattle.record_format.proofs.ReaderLemmas.{name_is, guest_found, config_hands, bound}
 use Rattle.record_format.proofs.SetupLemmas.{fits_of}
@@ -37,9 +37,12 @@ guests_back (g ∷ guests) tail right =
     (guest_back g (flat_map guest_spelling guests ++ tail) (colour_small g.colour.0 both.0))
     ∙ ap (with_guests (g ∷ [])) (guests_back guests tail both.1)
 
+number_within : (n : ℕ) → 1 ≤ n → n ≤ 16 → within 1 16 n ≡ true
+number_within n some most = grind (arith, nat_tests, some, most)
+
 head_right : (s : Setup) → Fits s → head_wrong (head_spelling s) ≡ None
 unfolding head_spelling
-head_right s fits = ap (λ (b : Bool). if b then None else Some (Rule 1)) fits.taken
+head_right s fits = ap (λ (b : Bool). if b then None else Some (Rule 1)) (number_within (length s.guests) fits.some_guests fits.guests)
 
 setup_is : (s : Setup) → Fits s → setup_at (head_spelling s) s.guests ≡ s
 unfolding head_spelling

@@ -9,8 +9,7 @@ use Rattle.io_ports.specs.Content.{Taken}
 use Rattle.io_ports.specs.declared.feed.RecordKind.TheVariants as kinds
 use Rattle.desk_laws.specs.declared.setup.GuestSetup.{GuestSetup}
 use Rattle.desk_laws.specs.declared.setup.Setup.{Setup}
-use Rattle.desk_laws.specs.Rules.{first_broken}
-use Rattle.desk_laws.specs.Stage.{takes_guests}
+use Rattle.desk_laws.specs.Rules.{within, first_broken}
 use Rattle.record_format.specs.declared.part.PartRead.{PartRead}
 use Rattle.record_format.specs.declared.part.PartRead.TheVariants as parts
 use Rattle.record_format.specs.declared.config.ConfigRead.{ConfigRead}
@@ -216,8 +215,8 @@ some_wrong false false false false g p q r s t = (t, refl)
 head_short : (head : List ℕ) → length head < 34 → (w : Wrong) × (head_wrong head ≡ Some w)
 head_short head short =
     let test : true ≡ nat_lt (length head) 34 = grind (arith, nat_tests) in
-    subst (λ (f : Bool). (w : Wrong) × ((if nat_lt (length head) 4 then Some (Fault (fault 0 kinds.Short)) else if not (bytes_eq (take 4 head) magic) then Some (Fault (fault 0 kinds.Magic)) else if nat_lt (length head) 5 then Some (Fault (fault 4 kinds.Short)) else if not (slice_index head 4 == 1) then Some (Fault (fault 4 kinds.Kind)) else if f then Some (Fault (fault 4 kinds.Short)) else if takes_guests (slice_index head 33) then None else Some (Rule 1)) ≡ Some w)) test
-    (some_wrong (nat_lt (length head) 4) (not (bytes_eq (take 4 head) magic)) (nat_lt (length head) 5) (not (slice_index head 4 == 1)) (takes_guests (slice_index head 33))
+    subst (λ (f : Bool). (w : Wrong) × ((if nat_lt (length head) 4 then Some (Fault (fault 0 kinds.Short)) else if not (bytes_eq (take 4 head) magic) then Some (Fault (fault 0 kinds.Magic)) else if nat_lt (length head) 5 then Some (Fault (fault 4 kinds.Short)) else if not (slice_index head 4 == 1) then Some (Fault (fault 4 kinds.Kind)) else if f then Some (Fault (fault 4 kinds.Short)) else if within 1 16 (slice_index head 33) then None else Some (Rule 1)) ≡ Some w)) test
+    (some_wrong (nat_lt (length head) 4) (not (bytes_eq (take 4 head) magic)) (nat_lt (length head) 5) (not (slice_index head 4 == 1)) (within 1 16 (slice_index head 33))
     (Fault (fault 0 kinds.Short)) (Fault (fault 0 kinds.Magic)) (Fault (fault 4 kinds.Short)) (Fault (fault 4 kinds.Kind)) (Fault (fault 4 kinds.Short)))
 
 -- fewer than 34 bytes are no configuration

@@ -1,7 +1,7 @@
 -- What holds of a setup that breaks no rule.
 use Rattle.std.proofs.Common.{◌≡◌, ℕ, zero, suc, get_or, ◌+◌, ◌*◌, ◌≤◌, Bool, true, false, List, [], ◌∷◌, length, None, refl, arith}
 use Rattle.std.proofs.lemmas.Bool.Decides.{nat_tests}
-use Rattle.std.specs.Prelude.{nat_le, ◌==◌}
+use Rattle.std.specs.Prelude.{nat_le}
 use Rattle.desk_laws.specs.declared.setup.Setup.{Setup}
 use Rattle.desk_laws.specs.Rules.{within, rules, first_false, first_broken, Fits}
 
@@ -20,16 +20,11 @@ most a b n is = grind (arith, nat_tests, is)
 at_most : (n b : ℕ) → nat_le n b ≡ true → n ≤ b
 at_most n b is = grind (arith, nat_tests, is)
 
-one : (n : ℕ) → (n == 1) ≡ true → n ≡ 1
-one n is = grind (arith, nat_tests, is)
-
 pub fits_of : (s : Setup) → first_broken s ≡ None → Fits s
 fits_of s is =
-    let single : length s.guests ≡ 1 = one (length s.guests) (rule_holds 1 (rules s) 0 is) in
     record {
-      taken = rule_holds 1 (rules s) 0 is;
-      some_guests = omega (arith, single);
-      guests = omega (arith, single);
+      some_guests = least 1 16 (length s.guests) (rule_holds 1 (rules s) 0 is);
+      guests = most 1 16 (length s.guests) (rule_holds 1 (rules s) 0 is);
       some_columns = least 1 8192 s.width (rule_holds 1 (rules s) 1 is);
       width = most 1 8192 s.width (rule_holds 1 (rules s) 1 is);
       some_rows = least 1 8192 s.height (rule_holds 1 (rules s) 2 is);

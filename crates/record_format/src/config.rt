@@ -74,7 +74,7 @@ fn head_wrong(head: &[u8]) -> Option<ConfigRead>
     if head.len() < 34 {
         return Some(fault(4, RecordKind::Short));
     }
-    if head[33] != 1 {
+    if head[33] < 1 || head[33] > 16 {
         return Some(ConfigRead::Rule(1));
     }
     None

@@ -4,7 +4,7 @@ ghost use Rattle.desk_laws.specs.Items.{IsInRange};
 ghost use Rattle.record_format.specs.ItemSpellings.{item_spelling};
 ghost use Rattle.record_format.specs.ItemFields.{HasFields};
 
-use crate::{config_len, fixed_len, item_of, put_config, read_config, spell_item};
+use crate::{ConfigRead, config_len, fixed_len, item_of, put_config, read_config, spell_item};
 use desk_laws::{GuestSetup, Guests, Item, Name, Setup};
 use gui_num::Colour;
 use io_ports::{MemSink, MemSource};
@@ -117,5 +117,56 @@ fn setup_both_ways(rt: HostRuntime) -> Result<(), Fail> {
     assert!(rt; put_config(&setup, &mut out).is_ok());
     assert_eq!(rt; out.bytes(), spelled.as_slice());
     assert_eq!(rt; config_len(&setup), 42);
+    Ok(())
+}
+
+// A desktop of 8 by 6 pixels with the guests `red` and `b`.
+const TWO_GUESTS: [u8; 48] = [
+    81, 71, 82, 49, 1, 8, 0, 0, 0, 6, 0, 0, 0, 1, 0, 0, 0, 0, 32, 0, 0, 0, 16, 0, 0, 90, 0, 0, 0,
+    0, 0, 0, 0, 2, 0, 0, 255, 0, 3, 114, 101, 100, 255, 0, 0, 0, 1, 98,
+];
+
+// What is read of the first 34 bytes of `TWO_GUESTS` with another number of guests.
+fn read_with(rt: &HostRuntime, guests: u8) -> Result<Result<Setup, ConfigRead>, Fail> {
+    let alloc = rt.alloc();
+    let mut head = [0u8; 34];
+    head.copy_from_slice(&TWO_GUESTS[..34]);
+    head[33] = guests;
+    let mut source = MemSource::new(alloc, &head, &[])?;
+    Ok(read_config(alloc, &mut source))
+}
+
+#[test]
+fn two_guests(rt: HostRuntime) -> Result<(), Fail> {
+    let alloc = rt.alloc();
+    let mut source = MemSource::new(alloc, &TWO_GUESTS, &[])?;
+    let setup = match read_config(alloc, &mut source) {
+        Ok(setup) => setup,
+        Err(_) => {
+            assert!(rt; false);
+            return Ok(());
+        }
+    };
+    let guests = setup.guests.items();
+    assert_eq!(rt; guests.len(), 2);
+    if guests.len() == 2 {
+        assert_eq!(rt; guests[0].colour, Colour(0xff_0000));
+        assert_eq!(rt; guests[0].name.bytes(), b"red".as_slice());
+        assert_eq!(rt; guests[1].colour, Colour(0xff));
+        assert_eq!(rt; guests[1].name.bytes(), b"b".as_slice());
+    }
+    let mut out = MemSink::new(alloc, &[])?;
+    assert!(rt; put_config(&setup, &mut out).is_ok());
+    assert_eq!(rt; out.bytes(), TWO_GUESTS.as_slice());
+    assert_eq!(rt; config_len(&setup), 48);
+    Ok(())
+}
+
+// The number of guests is looked at before the guests, of which there are none here.
+#[test]
+fn numbers_of_guests(rt: HostRuntime) -> Result<(), Fail> {
+    assert!(rt; matches!(read_with(&rt, 0)?, Err(ConfigRead::Rule(1))));
+    assert!(rt; matches!(read_with(&rt, 17)?, Err(ConfigRead::Rule(1))));
+    assert!(rt; matches!(read_with(&rt, 16)?, Err(ConfigRead::Bad(_))));
     Ok(())
 }

@@ -6,7 +6,7 @@ use Rattle.std.proofs.lemmas.Bool.{cond-true}
 use Rattle.gui_num.specs.declared.Rect.{Rect}
 use Rattle.gui_num.specs.Rects.{grown}
 use Rattle.desk_laws.specs.Sizes.{Sizes}
-use Rattle.desk_laws.specs.Override.{Placed as PlacedBy, effective_by, is_granted_by, moved_inside}
+use Rattle.desk_laws.specs.Override.{Placed as PlacedBy, effective, is_granted, moved_inside}
 use Rattle.redirect_limits.specs.declared.DeskSize.{DeskSize}
 use Rattle.redirect_limits.specs.Limits.{LiesOn, distance}
 
@@ -15,11 +15,11 @@ abbrev pub at : Rect → ℤ → ℤ → PlacedBy
 at rect x y = record { rect = record { x = x; y = y; w = rect.w; h = rect.h }; over = true }
 
 -- the rule where the request is granted
-pub granted-rule : (sizes : Sizes) (asked : Bool) (rect : Rect) (others : ℕ) (x y : ℤ) → is_granted_by true sizes asked rect others ≡ true
+pub granted-rule : (sizes : Sizes) (asked : Bool) (rect : Rect) (others : ℕ) (x y : ℤ) → is_granted sizes asked rect others ≡ true
     → x ≡ moved_inside rect.x rect.w sizes.border sizes.width → y ≡ moved_inside rect.y rect.h sizes.border sizes.height
-    → at rect x y ≡ effective_by true sizes asked rect others
+    → at rect x y ≡ effective sizes asked rect others
 granted-rule sizes asked rect others x y granted ex ey =
-    both x y _ _ ex ey ∙ sym (cond-true (is_granted_by true sizes asked rect others) _ _ granted)
+    both x y _ _ ex ey ∙ sym (cond-true (is_granted sizes asked rect others) _ _ granted)
   where
     both : (x y x' y' : ℤ) → x ≡ x' → y ≡ y' → at rect x y ≡ at rect x' y'
     both x y x' y' s t = cc

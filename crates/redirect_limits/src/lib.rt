@@ -7,7 +7,7 @@ ghost use Rattle.std.specs.Bool.{OnTrue};
 ghost use Rattle.gui_num.specs.declared.Rect.{Rect};
 ghost use Rattle.gui_num.specs.Rects.{grown};
 ghost use Rattle.desk_laws.specs.Sizes.{Sizes};
-ghost use Rattle.desk_laws.specs.Override.{effective_by, is_granted_by, moved_inside};
+ghost use Rattle.desk_laws.specs.Override.{effective, is_granted, moved_inside};
 ghost use Rattle.redirect_limits.specs.Limits.{LiesOn, desk_of, distance, placed_of};
 
 use gui_num::{Rect, area};
@@ -53,7 +53,7 @@ pub fn effective(asked: bool, rect: Rect, others: u64, desk: &DeskSize) -> Place
     requires others { others ≤ 2 ^ 32 }
 
     // It is the desktop's rule for every setup with these numbers.
-    ensures rule { (sizes : Sizes) → desk_of sizes ≡ desk.now → placed_of result ≡ effective_by true sizes asked rect others }
+    ensures rule { (sizes : Sizes) → desk_of sizes ≡ desk.now → placed_of result ≡ effective sizes asked rect others }
 
     // A granted window lies on the desktop with its border, and keeps its size.
     ensures inside { OnTrue result.over (LiesOn desk.now (grown result.rect desk.now.border)) }
@@ -89,7 +89,7 @@ fn is_granted(asked: bool, rect: Rect, others: u64, desk: &DeskSize) -> bool
     requires border { desk.now.border ≤ 16 }
     requires percent { desk.now.percent ≤ 90 }
     requires others { others ≤ 2 ^ 32 }
-    ensures rule { (sizes : Sizes) → desk_of sizes ≡ desk.now → result ≡ is_granted_by true sizes asked rect others }
+    ensures rule { (sizes : Sizes) → desk_of sizes ≡ desk.now → result ≡ is_granted sizes asked rect others }
     ensures width { IsTrue result → rect.w + 2 * desk.now.border ≤ desk.now.width }
     ensures height { IsTrue result → rect.h + 2 * desk.now.border ≤ desk.now.height }
 {

@@ -1,8 +1,7 @@
 use Rattle.std.proofs.Common.{◌≡◌, ◌≤◌, length, drop, ◌++◌, sym, ap, ◌∙◌, arith}
 use Rattle.std.proofs.lemmas.List.{take_rest}
-use Rattle.gui_wire.specs.Headers.{header_at}
+use Rattle.gui_wire.specs.Headers.{header_at, head_result}
 use Rattle.in_stream.specs.Received.{Received, StandsFor}
-use Rattle.in_stream.specs.Shown.{checked_head}
 use Rattle.in_stream.proofs.StandsLemmas.{stands-length, stands-header, stands-behind}
 use Rattle.in_stream.proofs.FrontLemmas.{front-short, front-bad, front-clip_long, faultless}
 use Rattle.in_stream.proofs.stream.InStream.front.Goals as goal
@@ -20,7 +19,7 @@ returns-in-Err c = λ r h.
     let stands : StandsFor s r = rw c.self.view_is h in
     let long : 12 ≤ length s.held = rw c.bytes-held.ensures.is at c.if-held-lt-HEADER_LEN.false in
     let e = c.header_of-header.ensures ∙ ap header_at c.bytes-held.ensures.is in
-    rw e (front-bad s r c.in-Err.fault stands long (ap checked_head (sym e) ∙ sym c.head_checked.ensures ∙ c.in-Err.is))
+    rw e (front-bad s r c.in-Err.fault stands long (ap head_result (sym e) ∙ sym c.head_check.ensures ∙ c.in-Err.is))
 
 pub returns-then-header-gt-LONGEST_CLIP : goal.returns-then-header-gt-LONGEST_CLIP
 returns-then-header-gt-LONGEST_CLIP c = λ r h.
@@ -42,5 +41,5 @@ returns c = λ r h.
       | else-header-eq-CLIPBOARD_DATA-via-else-header-eq-CLIPBOARD_DATA w ↦ absurd (w.if-header-eq-CLIPBOARD_DATA.false clip)
     ] in
     c.message_at.ensures r stands.passed (omega (arith, stands-length s r stands)) (stands-header s r long stands ∙ sym e)
-    (faultless c.header_of-header.result (sym c.head_checked.ensures ∙ c.in_default.is) limit) stands.as_many
+    (faultless c.header_of-header.result (sym c.head_check.ensures ∙ c.in_default.is) limit) stands.as_many
     (stands-behind s r long stands ∙ ap (λ x. stands.passed ++ drop 12 x) (sym c.bytes-held.ensures.is) ∙ ap (λ x. stands.passed ++ x) (sym (take_rest c.bytes-held.result.now 12)))
