@@ -1,5 +1,5 @@
 // The columns of a row that aren't drawn yet.
-ghost use Rattle.std.specs.Prelude.{◌≡◌, ◌+◌, ◌*◌, ◌<◌, ◌≤◌, ℕ, Bool, List, [], ◌∷◌, ◌++◌, ◌&&◌, not, length, flat_map, IfOk, vec_capacity};
+ghost use Rattle.std.specs.Prelude.{◌≡◌, ◌+◌, ◌*◌, ◌<◌, ◌≤◌, ℕ, Bool, List, [], ◌∷◌, ◌++◌, ◌&&◌, ◌↔◌, not, length, flat_map, IfOk, IsTrue, vec_capacity};
 ghost use Rattle.std.specs.Iterator.{YieldsFirst, at_most};
 ghost use Rattle.region_clip.specs.Spans.{RowOf, keep, span_cut, cut_spans, in_columns, in_spans, AreApart};
 
@@ -59,6 +59,13 @@ impl RowSpans {
             cut_into(&self.spans, x0, x1, self.width, &mut self.next);
             swap(&mut self.spans, &mut self.next);
         }
+    }
+
+    /// Whether no column is left to be drawn.
+    pub fn is_empty(&self) -> bool
+        ensures { IsTrue result ↔ (self.now.spans ≡ []) }
+    {
+        self.spans.is_empty()
     }
 
     /// The spans that are left, from the left. Each has a column, and between two there is a column that

@@ -1,0 +1,4 @@
+pub mod DrawLemmas
+pub mod PixelLemmas
+pub mod RowLemmas
+pub mod TestLemmas

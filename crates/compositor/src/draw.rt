@@ -1,0 +1,216 @@
+// How the panes are drawn onto one row of a picture, from the topmost one down, each pixel once.
+ghost use Rattle.std.specs.Prelude.{◌≡◌, ◌<◌, ◌≤◌, ◌+◌, ◌-◌, ℕ, ◌&&◌, not, length, slice_get, slice_index, Some, true, pos, ◌-ℤ◌, ◌≤ℤ◌, if◌then◌else◌};
+ghost use Rattle.gui_num.specs.Rects.{IsFit, nat_of, has, on_side, right};
+ghost use Rattle.region_clip.specs.Spans.{in_columns, in_spans, AreApart};
+ghost use Rattle.compositor.specs.Composed.{Pane, views_of, colour_or, content_under, pane_colour, composed, at_pixel};
+
+use crate::panes::{PaneView, Panes};
+use gui_num::{Colour, Rect};
+use label_border::ring_row;
+use region_clip::{RowSpans, Spans};
+
+// What a window shows where it has no content.
+const BLANK: Colour = Colour(0x808080);
+
+// The column of a place, 0 where it lies to the left of the picture.
+fn column(x: i32) -> u32
+    ensures { result ≡ nat_of x }
+{
+    if x < 0 { 0 } else { x as u32 }
+}
+
+// The column past the last one of a rectangle, 0 where that lies to the left of the picture.
+fn right_column(r: Rect) -> u32
+    requires { IsFit r }
+    ensures { result ≡ nat_of (right r) }
+{
+    column(r.x + r.w as i32)
+}
+
+// Whether a rectangle reaches the row y.
+fn in_row(r: Rect, y: u32) -> bool
+    requires fit { IsFit r }
+    requires row { y < 8192 }
+    ensures { result ≡ on_side r.y r.h (pos y) }
+{
+    let place = y as i32;
+    r.y <= place && place < r.y + r.h as i32
+}
+
+// How many columns, or rows, a place of the picture lies behind the edge of a window.
+fn behind(edge: i32, place: u32) -> u32
+    requires edge { edge ≤ℤ pos place }
+    requires small { place ≤ 8192 }
+    ensures { result ≡ nat_of (pos place -ℤ edge) }
+{
+    (i64::from(place) - i64::from(edge)) as u32
+}
+
+// Gives the columns from one on and before another this colour.
+fn fill(row: &mut [u32], from: usize, end: usize, colour: u32)
+    requires order { from ≤ end }
+    requires inside { end ≤ length row.old }
+    ensures { (x : ℕ) → x < length row.old → slice_index row.new x ≡ (if in_columns from end x then colour else slice_index row.old x) }
+{
+    row[from..end].fill(colour);
+}
+
+// Gives the columns from one on and before another what a pane shows from column `x` of its row `y` on.
+fn draw_content<Q: Panes>(
+    row: &mut [u32],
+    from: usize,
+    end: usize,
+    panes: &Q,
+    k: usize,
+    x: u32,
+    y: u32,
+)
+    requires order { from ≤ end }
+    requires inside { end ≤ length row.old }
+    requires pane { k < length (Q.panes panes.now) }
+    requires small { x + (end - from) ≤ 32768 }
+    requires content { (pane : Pane) → slice_get (Q.panes panes.now) k ≡ Some pane → (x + (end - from) ≤ pane.view.content.w) × (y < pane.view.content.h) }
+    ensures { (pane : Pane) → slice_get (Q.panes panes.now) k ≡ Some pane → (i : ℕ) → i < length row.old → slice_index row.new i ≡ (if in_columns from end i then colour_or 0x808080 (pane.content (x + (i - from)) y) else slice_index row.old i) }
+{
+    panes.content_row(k, x, y, BLANK, &mut row[from..end]);
+}
+
+// Gives the columns from one on and before another the content that a pane has there, in the row y of
+// the picture. All of them lie in its content rectangle.
+fn draw_part<Q: Panes>(
+    row: &mut [u32],
+    from: u32,
+    end: u32,
+    panes: &Q,
+    k: usize,
+    view: &PaneView,
+    y: u32,
+)
+    requires order { from ≤ end }
+    requires inside { end ≤ length row.old }
+    requires small { end ≤ 8192 }
+    requires row { y < 8192 }
+    requires pane { k < length (Q.panes panes.now) }
+    requires view { slice_get (views_of (Q.panes panes.now)) k ≡ Some view.now }
+    requires fit { IsFit view.now.content }
+    requires left { from < end → view.now.content.x ≤ℤ pos from }
+    requires right { from < end → pos end ≤ℤ right view.now.content }
+    requires reached { on_side view.now.content.y view.now.content.h (pos y) ≡ true }
+    ensures { (pane : Pane) → slice_get (Q.panes panes.now) k ≡ Some pane → (x : ℕ) → x < length row.old → slice_index row.new x ≡ (if in_columns from end x then content_under pane (at_pixel x y) else slice_index row.old x) }
+{
+    if from < end {
+        let column = behind(view.content.x, from);
+        let down = behind(view.content.y, y);
+        draw_content(row, from as usize, end as usize, panes, k, column, down);
+    }
+}
+
+// Draws a pane in the columns from one on and before another, in the row y of the picture: its border,
+// its content and its border again.
+fn draw_pane<Q: Panes>(
+    row: &mut [u32],
+    from: u32,
+    end: u32,
+    panes: &Q,
+    k: usize,
+    view: &PaneView,
+    y: u32,
+)
+    requires order { from ≤ end }
+    requires inside { end ≤ length row.old }
+    requires small { end ≤ 8192 }
+    requires row { y < 8192 }
+    requires pane { k < length (Q.panes panes.now) }
+    requires view { slice_get (views_of (Q.panes panes.now)) k ≡ Some view.now }
+    requires fit { IsFit view.now.content }
+    ensures { (pane : Pane) → slice_get (Q.panes panes.now) k ≡ Some pane → (x : ℕ) → x < length row.old → slice_index row.new x ≡ (if in_columns from end x then pane_colour pane (at_pixel x y) else slice_index row.old x) }
+{
+    // which columns are content doesn't depend on how wide the border is
+    if let Some((first, past)) = ring_row(view.content, 0, y as i32) {
+        let left = column(first).max(from).min(end);
+        let right = column(past).max(left).min(end);
+        fill(row, from as usize, left as usize, view.colour.0);
+        draw_part(row, left, right, panes, k, view, y);
+        fill(row, right as usize, end as usize, view.colour.0);
+    } else {
+        fill(row, from as usize, end as usize, view.colour.0);
+    }
+}
+
+// Draws a pane in the columns of some spans that lie from x0 on and before x1.
+fn draw_spans<Q: Panes>(
+    row: &mut [u32],
+    spans: Spans<'_>,
+    panes: &Q,
+    k: usize,
+    view: &PaneView,
+    x0: u32,
+    x1: u32,
+    y: u32,
+)
+    requires apart { AreApart 0 (length row.old) spans }
+    requires small { length row.old ≤ 8192 }
+    requires row { y < 8192 }
+    requires pane { k < length (Q.panes panes.now) }
+    requires view { slice_get (views_of (Q.panes panes.now)) k ≡ Some view.now }
+    requires fit { IsFit view.now.content }
+    ensures { (pane : Pane) → slice_get (Q.panes panes.now) k ≡ Some pane → (x : ℕ) → x < length row.old → slice_index row.new x ≡ (if in_spans spans.entry x && in_columns x0 x1 x then pane_colour pane (at_pixel x y) else slice_index row.old x) }
+{
+    for (start, end) in spans {
+        let from = start.max(x0).min(end);
+        let until = end.min(x1).max(from);
+        draw_pane(row, from, until, panes, k, view, y);
+    }
+}
+
+// Gives the columns of some spans this colour.
+fn fill_spans(row: &mut [u32], spans: Spans<'_>, colour: u32)
+    requires { AreApart 0 (length row.old) spans }
+    ensures { (x : ℕ) → x < length row.old → slice_index row.new x ≡ (if in_spans spans.entry x then colour else slice_index row.old x) }
+{
+    for (start, end) in spans {
+        fill(row, start as usize, end as usize, colour);
+    }
+}
+
+// Draws the k-th pane where nothing is drawn yet.
+fn paint_pane<Q: Panes>(row: &mut [u32], spans: &mut RowSpans, panes: &Q, k: usize, y: u32)
+    requires width { spans.old.width ≡ length row.old }
+    requires small { length row.old ≤ 8192 }
+    requires row { y < 8192 }
+    requires pane { k < length (Q.panes panes.now) }
+    ensures width { spans.new.width ≡ spans.old.width }
+    ensures left { (pane : Pane) → slice_get (Q.panes panes.now) k ≡ Some pane → (x : ℕ) → in_spans spans.new.spans x ≡ (in_spans spans.old.spans x && not (has pane.view.outer (at_pixel x y))) }
+    ensures row { (pane : Pane) → slice_get (Q.panes panes.now) k ≡ Some pane → (x : ℕ) → x < length row.old → slice_index row.new x ≡ (if in_spans spans.old.spans x && has pane.view.outer (at_pixel x y) then pane_colour pane (at_pixel x y) else slice_index row.old x) }
+{
+    let place = panes.view(k);
+    if in_row(place.outer, y) {
+        let x0 = column(place.outer.x);
+        let x1 = right_column(place.outer);
+        draw_spans(row, spans.spans(), panes, k, &place, x0, x1, y);
+        spans.cut(x0, x1);
+    }
+}
+
+// Draws the columns of the row y that are left to be drawn, each one once.
+pub(crate) fn paint_row<Q: Panes>(
+    row: &mut [u32],
+    spans: &mut RowSpans,
+    panes: &Q,
+    y: u32,
+    background: u32,
+)
+    requires width { spans.old.width ≡ length row.old }
+    requires small { length row.old ≤ 8192 }
+    requires row { y < 8192 }
+    ensures width { spans.new.width ≡ spans.old.width }
+    ensures row { (x : ℕ) → x < length row.old → slice_index row.new x ≡ (if in_spans spans.old.spans x then composed background (Q.panes panes.now) (at_pixel x y) else slice_index row.old x) }
+{
+    for k in 0..panes.count() {
+        if spans.is_empty() {
+            return;
+        }
+        paint_pane(row, spans, panes, k, y);
+    }
+    fill_spans(row, spans.spans(), background);
+}

@@ -1,0 +1,165 @@
+// The picture of the desktop: one colour for each pixel.
+ghost use Rattle.std.specs.Prelude.{◌≡◌, ◌<◌, ◌≤◌, ◌+◌, ◌*◌, ℕ, length, map, take, drop, slice_index, vec_len, IfOk, if◌then◌else◌};
+ghost use Rattle.region_clip.specs.Spans.{in_spans};
+ghost use Rattle.compositor.specs.Composed.{composed, at_pixel, all_pixels};
+ghost use Rattle.compositor.specs.PictureView.{counted};
+
+use crate::draw::paint_row;
+use crate::panes::Panes;
+use gui_num::{Colour, NoMemory};
+use region_clip::RowSpans;
+use std::alloc::Global;
+use std::marker::Model;
+
+/// The picture of the desktop: one colour for each pixel. It is seen as its sides in pixels, its
+/// background, its colours row by row from the top, and the number of pixels that were drawn in all.
+#[derive(Drop)]
+pub struct Picture {
+    width: u32,
+    height: u32,
+    background: Colour,
+    pixels: Vec<u32>,
+    spans: RowSpans,
+    painted: u64,
+}
+
+impl Model for Picture {
+    ghost use Rattle.std.specs.Prelude.{◌≡◌, vec_len};
+    ghost use Rattle.compositor.specs.PictureView.{PictureView, HasSides};
+
+    ghost Value = { PictureView };
+
+    ghost view = { λ p. record { width = p.width; height = p.height; background = p.background.0; pixels = p.pixels.items; painted = p.painted } };
+
+    ghost invariant = { λ p. HasSides p.width p.height (vec_len p.pixels) × (p.spans.width ≡ p.width) };
+}
+
+impl Picture {
+    /// A picture of `width` by `height` pixels, all of the colour of the background, of which nothing
+    /// counts as drawn yet. All memory is taken here: no other call takes any. `NoMemory` where there is
+    /// none for its pixels.
+    pub fn new(
+        alloc: Global,
+        width: u32,
+        height: u32,
+        background: Colour,
+    ) -> Result<Picture, NoMemory>
+        requires wide { width ≤ 8192 }
+        requires high { height ≤ 8192 }
+        ensures { IfOk result (λ p. p ≡ record { width = width; height = height; background = background.0; pixels = map (λ _. background.0) (all_pixels width height); painted = 0 }) }
+    {
+        let pixels = vec![in alloc; background.0; height as usize * width as usize]?;
+        let spans = RowSpans::new(alloc, width)?;
+        Ok(Picture {
+            width,
+            height,
+            background,
+            pixels,
+            spans,
+            painted: 0,
+        })
+    }
+
+    /// Its width in pixels, at most 8192.
+    pub fn width(&self) -> u32
+        ensures is { result ≡ self.now.width }
+        ensures small { result ≤ 8192 }
+    {
+        self.width
+    }
+
+    /// Its height in pixels, at most 8192.
+    pub fn height(&self) -> u32
+        ensures is { result ≡ self.now.height }
+        ensures small { result ≤ 8192 }
+        ensures whole { length self.now.pixels ≡ self.now.width * self.now.height }
+    {
+        self.height
+    }
+
+    /// The number of pixels that were drawn since it was made, at most 2^64 - 1.
+    pub fn painted(&self) -> u64
+        ensures { result ≡ self.now.painted }
+    {
+        self.painted
+    }
+
+    /// The colours of the row `y`, 0xrrggbb each, from the left. The rows are counted from the top, from
+    /// 0.
+    pub fn row(&self, y: u32) -> &[u32]
+        requires { y < self.now.height }
+        ensures row { result.now ≡ take self.now.width (drop (y * self.now.width) self.now.pixels) }
+        ensures len { length result.now ≡ self.now.width }
+    {
+        let width = self.width as usize;
+        let start = y as usize * width;
+        &self.pixels[start..start + width]
+    }
+
+    /// Draws each pixel once: it is of the colour of the topmost pane whose outer rectangle has it, which
+    /// is its content inside the content rectangle (grey where there is none) and the colour of its border
+    /// around that, and of the background where no pane has it. All pixels count as drawn.
+    pub fn paint<Q: Panes>(&mut self, panes: &Q)
+        ensures sides { (self.new.width ≡ self.old.width) × (self.new.height ≡ self.old.height) × (self.new.background ≡ self.old.background) }
+        ensures pixels { self.new.pixels ≡ map (composed self.old.background (Q.panes panes.now)) (all_pixels self.old.width self.old.height) }
+        ensures painted { self.new.painted ≡ counted (self.old.painted + self.old.width * self.old.height) }
+    {
+        paint_rows(
+            &mut self.pixels,
+            &mut self.spans,
+            panes,
+            self.width,
+            self.height,
+            self.background.0,
+        );
+        self.painted = self
+            .painted
+            .saturating_add(u64::from(self.width) * u64::from(self.height));
+    }
+}
+
+// Draws all rows of a picture, from the top.
+fn paint_rows<Q: Panes>(
+    pixels: &mut [u32],
+    spans: &mut RowSpans,
+    panes: &Q,
+    width: u32,
+    height: u32,
+    background: u32,
+)
+    requires width { spans.old.width ≡ width }
+    requires small { width ≤ 8192 }
+    requires low { height ≤ 8192 }
+    requires size { length pixels.old ≡ height * width }
+    ensures width { spans.new.width ≡ width }
+    ensures pixels { pixels.new ≡ map (composed background (Q.panes panes.now)) (all_pixels width height) }
+{
+    for y in 0..height {
+        let start = y as usize * width as usize;
+        paint_at(pixels, start, spans, panes, y, width, background);
+    }
+}
+
+// Draws the row y, which begins at a place of the picture.
+fn paint_at<Q: Panes>(
+    pixels: &mut [u32],
+    start: usize,
+    spans: &mut RowSpans,
+    panes: &Q,
+    y: u32,
+    width: u32,
+    background: u32,
+)
+    requires width { spans.old.width ≡ width }
+    requires small { width ≤ 8192 }
+    requires row { y < 8192 }
+    requires inside { start + width ≤ length pixels.old }
+    ensures width { spans.new.width ≡ width }
+    ensures here { (x : ℕ) → x < width → slice_index pixels.new (start + x) ≡ composed background (Q.panes panes.now) (at_pixel x y) }
+    ensures before { (i : ℕ) → i < start → slice_index pixels.new i ≡ slice_index pixels.old i }
+    ensures behind { (i : ℕ) → start + width ≤ i → slice_index pixels.new i ≡ slice_index pixels.old i }
+{
+    let end = start + width as usize;
+    spans.reset(0, width);
+    paint_row(&mut pixels[start..end], spans, panes, y, background);
+}
