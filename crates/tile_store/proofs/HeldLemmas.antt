@@ -7,7 +7,7 @@ use Rattle.tile_store.specs.declared.shelf.Tile.{Tile}
 use Rattle.tile_store.specs.Spots.{before, same}
 use Rattle.tile_store.specs.Held.{tile_at, is_held, pixel_in, rises, placed, written_in, written}
 use Rattle.tile_store.specs.Places.{IsPlaceFor, first_at, is_first}
-use Rattle.tile_store.proofs.OrderLemmas.{before-trans, before-not-same, before-same}
+use Rattle.tile_store.proofs.OrderLemmas.{before-trans, before-not-same, before-same, same-not-before}
 
 -- what comes behind a tile
 abbrev pub after : Tile → Tile → Bool
@@ -104,6 +104,53 @@ is-first-end spot [] zero past = refl
 is-first-end spot [] (suc i) past = refl
 is-first-end spot (t ∷ ts) zero past = absurd (omega arith)
 is-first-end spot (t ∷ ts) (suc i) past = is-first-end spot ts i (omega arith)
+
+-- the tile at a place, where it lies at a spot
+first-same : (spot : Spot) (held : List Tile) (i : ℕ) (d : Tile) → is_first spot (drop i held) ≡ true → same (get_or held i d).spot spot ≡ true
+first-same spot [] zero d e = absurd (cc)
+first-same spot [] (suc i) d e = absurd (cc)
+first-same spot (t ∷ ts) zero d e = e
+first-same spot (t ∷ ts) (suc i) d e = first-same spot ts i d e
+
+first-inside : (spot : Spot) (held : List Tile) (i : ℕ) → is_first spot (drop i held) ≡ true → i < length held
+first-inside spot [] zero e = absurd (cc)
+first-inside spot [] (suc i) e = absurd (cc)
+first-inside spot (t ∷ ts) zero e = omega arith
+first-inside spot (t ∷ ts) (suc i) e = let m = first-inside spot ts i e in omega arith
+
+place-more : (spot : Spot) (t : Tile) (ts : List Tile) (i : ℕ) → before t.spot spot ≡ true → IsPlaceFor spot ts i → IsPlaceFor spot (t ∷ ts) (suc i)
+place-more spot t ts zero front place = record {
+  within = omega (arith, place.within);
+  behind = λ d h.
+      let here : suc zero - 1 ≡ zero = omega arith in
+      let P : ℕ → Type 0 = λ n. before (get_or (t ∷ ts) n d).spot spot ≡ true in
+      subst P (sym here) front;
+  ahead = λ d h. place.ahead d (omega arith);
+}
+place-more spot t ts (suc i) front place = record {
+  within = omega (arith, place.within);
+  behind = λ d h.
+      let there : suc (suc i) - 1 ≡ suc i = omega arith in
+      let here : suc i - 1 ≡ i = omega arith in
+      let P : ℕ → Type 0 = λ n. before (get_or (t ∷ ts) n d).spot spot ≡ true in
+      let Q : ℕ → Type 0 = λ n. before (get_or ts n d).spot spot ≡ true in
+      subst P (sym there) (subst Q here (place.behind d (omega arith)));
+  ahead = λ d h. place.ahead d (omega arith);
+}
+
+-- the place of a tile that lies at a spot is the spot's
+pub there-place : (spot : Spot) (held : List Tile) (i : ℕ) → rises held ≡ true → is_first spot (drop i held) ≡ true → IsPlaceFor spot held i
+there-place spot [] zero rising e = absurd (cc)
+there-place spot [] (suc i) rising e = absurd (cc)
+there-place spot (t ∷ ts) zero rising e = record {
+  within = omega arith;
+  behind = λ d h. absurd (omega arith);
+  ahead = λ d h. same-not-before t.spot spot e;
+}
+there-place spot (t ∷ ts) (suc i) rising e =
+    let parts = and_parts (list_all (after t) ts) (rises ts) rising in
+    let front : before t.spot (get_or ts i t).spot ≡ true = all-at (after t) ts i t parts.0 (first-inside spot ts i e) in
+    place-more spot t ts i (before-same t.spot (get_or ts i t).spot spot front (first-same spot ts i t e)) (there-place spot ts i parts.1 e)
 
 -- a spot that is held has its place among the tiles
 pub held-inside : (spot : Spot) (held : List Tile) (i : ℕ) → is_first spot (drop i held) ≡ true → i < length held

@@ -11,6 +11,9 @@ before-trans a b c p q = grind (arith, nat_tests)
 pub before-not-same : (a b : Spot) → before a b ≡ true → same a b ≡ false
 before-not-same a b p = grind (arith, nat_tests)
 
+pub same-not-before : (a b : Spot) → same a b ≡ true → before a b ≡ false
+same-not-before a b p = grind (arith, nat_tests)
+
 pub before-same : (a b c : Spot) → before a b ≡ true → same b c ≡ true → before a c ≡ true
 before-same a b c p q = grind (arith, nat_tests)
 

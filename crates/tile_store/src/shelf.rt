@@ -33,6 +33,18 @@ pub(crate) fn place_for(held: &[Tile], spot: Spot) -> usize
     low
 }
 
+// The same, where `near` is a place that is looked at first.
+fn place_near(held: &[Tile], near: usize, spot: Spot) -> usize
+    requires { rises held.now ≡ true }
+    ensures { IsPlaceFor spot held.now result }
+{
+    if is_at(held, near, spot) {
+        near
+    } else {
+        place_for(held, spot)
+    }
+}
+
 // Whether the tile at this place lies at the spot.
 fn is_at(held: &[Tile], i: usize, spot: Spot) -> bool
     ensures { result ≡ is_first spot (drop i held.now) }
@@ -63,27 +75,31 @@ pub(crate) fn read(held: &[Tile], spot: Spot, k: usize) -> Option<u32>
 }
 
 // Writes the colours of n pixels of the tile at a spot, from the one with number k on, behind the
-// first `at` places of `out`, `blank` where nothing was read or the tile isn't held.
+// first `at` places of `out`, `blank` where nothing was read or the tile isn't held. The place `near` is
+// looked at first, and the answer is the place behind the tile: there the next one is, if it is held.
 pub(crate) fn read_part(
     held: &[Tile],
+    near: usize,
     spot: Spot,
     k: usize,
     n: usize,
     blank: u32,
     out: &mut [u32],
     at: usize,
-)
+) -> usize
     requires rising { rises held.now ≡ true }
     requires pixels { k + n ≤ 4096 }
     requires room { at + n ≤ length out.old }
     ensures read { (i : ℕ) → at ≤ i → i < at + n → slice_index out.new i ≡ colour_or blank (pixel_in (k + (i - at)) (tile_at spot held.now)) }
     ensures kept { (i : ℕ) → i < at → slice_index out.new i ≡ slice_index out.old i }
 {
-    let i = place_for(held, spot);
+    let i = place_near(held, near, spot);
     if is_at(held, i, spot) {
         held[i].square.copy_to(k, n, blank, out, at);
+        i + 1
     } else {
         fill_part(out, at, n, blank);
+        i
     }
 }
 

@@ -1,5 +1,5 @@
 // The pixels of one tile.
-ghost use Rattle.std.specs.Prelude.{◌≡◌, ℕ, ◌+◌, ◌-◌, ◌<◌, ◌≤◌, ◌^◌, length, take, drop, Some, None, IfOk, slice_index, slice_index_or, slice_set, vec_len, IsSome};
+ghost use Rattle.std.specs.Prelude.{◌≡◌, ℕ, ◌+◌, ◌-◌, ◌<◌, ◌≤◌, ◌^◌, length, take, drop, Some, None, IfOk, slice_index, slice_index_or, slice_set, vec_len, IsSome, IsTrue};
 ghost use Rattle.tile_store.specs.Squares.{blank, has_pixel, cut_from, cut_words, cut_word, is_colour, shown};
 ghost use Rattle.tile_store.specs.Contents.{colour_or};
 ghost use Rattle.std.specs.List.{list_any};
@@ -64,7 +64,11 @@ impl Square {
         ensures copied { (i : ℕ) → at ≤ i → i < at + n → slice_index out.new i ≡ colour_or blank (slice_index_or self.now (k + (i - at)) None) }
         ensures kept { (i : ℕ) → i < at → slice_index out.new i ≡ slice_index out.old i }
     {
-        copy_colours(&self.words, k, n, blank, out, at);
+        if are_colours(&self.words, k, n) {
+            copy_words(&self.words, k, n, out, at);
+        } else {
+            copy_colours(&self.words, k, n, blank, out, at);
+        }
     }
 
     // Gives a pixel a colour.
@@ -118,6 +122,28 @@ fn some_colour(words: &[u32]) -> bool
     ensures { result ≡ list_any is_colour words.now }
 {
     words.iter().any(|word| *word < 0x100_0000)
+}
+
+// Whether n words from the one with number k on are colours.
+fn are_colours(words: &[u32], k: usize, n: usize) -> bool
+    requires { k + n ≤ length words.now }
+    ensures { IsTrue result → (i : ℕ) → i < n → slice_index words.now (k + i) < 2 ^ 24 }
+{
+    let mut greatest = 0;
+    for j in 0..n {
+        greatest = words[k + j].max(greatest);
+    }
+    greatest < 0x100_0000
+}
+
+// Writes n words from the one with number k on behind the first `at` places of `out`.
+fn copy_words(words: &[u32], k: usize, n: usize, out: &mut [u32], at: usize)
+    requires words { k + n ≤ length words.now }
+    requires room { at + n ≤ length out.old }
+    ensures copied { (i : ℕ) → at ≤ i → i < at + n → slice_index out.new i ≡ slice_index words.now (k + (i - at)) }
+    ensures kept { (i : ℕ) → i < at → slice_index out.new i ≡ slice_index out.old i }
+{
+    out[at..at + n].copy_from_slice(&words[k..k + n]);
 }
 
 // Writes n words from the one with number k on behind the first `at` places of `out`, `blank` in the

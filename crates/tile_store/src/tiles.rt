@@ -274,6 +274,7 @@ fn read_parts(held: &[Tile], slot: u32, x: u32, y: u32, blank: u32, out: &mut [u
     ensures { out.new ≡ row_colours slot blank x y (length out.old) held.now }
 {
     let mut done = 0;
+    let mut near = 0;
     while done < out.len() {
         let from = x + done as u32;
         let spot = Spot {
@@ -283,7 +284,7 @@ fn read_parts(held: &[Tile], slot: u32, x: u32, y: u32, blank: u32, out: &mut [u
         };
         let n = part_of(from, out.len() - done);
         let k = y as usize % 64 * 64 + from as usize % 64;
-        read_part(held, spot, k, n, blank, out, done);
+        near = read_part(held, near, spot, k, n, blank, out, done);
         done += n;
     }
 }
