@@ -1,10 +1,9 @@
 -- What a change of one pane does to its row and to what was read of it.
 use Rattle.std.proofs.Common.{◌≡◌, ℕ, ◌<◌, Bool, true, false, cond, ◌&&◌, not, eqb, ltb, ◌||◌, List, [], ◌∷◌, None, is_some, refl, sym, ap, ◌∙◌, subst, arith}
-use Rattle.std.specs.Prelude.{if◌then◌else◌}
 use Rattle.std.specs.List.{list_all}
 use Rattle.std.proofs.lemmas.Bool.{and_parts, and_from, eq-eqb, lt-ltb}
 use Rattle.gui_num.specs.declared.Rect.{Rect}
-use Rattle.desk_laws.specs.Rows.{Row, content_at}
+use Rattle.desk_laws.specs.Rows.{Row, content_at, contents_at_size}
 use Rattle.tile_store.specs.declared.shelf.Tile.{Tile}
 use Rattle.tile_store.specs.Squares.{has_pixel}
 use Rattle.tile_store.specs.Held.{colour_at, cut_tile, is_left, swept}
@@ -13,22 +12,33 @@ use Rattle.tile_store.proofs.RiseLemmas.{cut-stays, cut-other}
 use Rattle.window_table.specs.declared.pane.Pane.{Pane}
 use Rattle.window_table.specs.Entries.{Entry, TableView, AreApart, entry_at, updated, with_pane}
 use Rattle.guest_session.specs.declared.edit.Edit.{Edit}
-use Rattle.guest_session.specs.declared.edit.Edit.TheVariants.{Map, Unmap, Configure, Title, Dock, Hints, Class, Cursor}
+use Rattle.guest_session.specs.declared.edit.Edit.TheVariants.{Map, Unmap, Configure, Title, Dock, Hints, Flags, Fill, Class, Cursor}
 use Rattle.guest_session.specs.SessionView.{IsPlace}
 use Rattle.guest_session.specs.Edits.{FitsEdit, EditsPixels, pane_edited, row_edited, tiles_edited}
-use Rattle.guest_session.specs.RowsView.{AreKept, HasFitDump, StaysInside, is_owned, own_row}
+use Rattle.guest_session.specs.RowsView.{AreKept, HasFitDump, contents_in, StaysInside, is_owned, own_row}
 use Rattle.guest_session.proofs.GridLemmas.{grid-same}
 use Rattle.guest_session.proofs.TableLemmas.{HasSlot}
 use Rattle.guest_session.proofs.RowChanges.{KeepsOthers}
 use Rattle.guest_session.proofs.KeptLemmas.{content-seen, kept-at, kept-updated}
 
 pub edited-place : (edit : Edit) (pane : Pane) → FitsEdit edit → IsPlace pane.place → IsPlace (pane_edited edit pane).place
-edited-place (Map asked transient) pane fits is = is
+edited-place (Map asked transient x y over) pane fits is = record {
+  x_low = fits.x_low;
+  x_high = fits.x_high;
+  y_low = fits.y_low;
+  y_high = fits.y_high;
+  w_low = is.w_low;
+  w_high = is.w_high;
+  h_low = is.h_low;
+  h_high = is.h_high;
+}
 edited-place Unmap pane fits is = is
-edited-place (Configure place asked) pane fits is = fits
+edited-place (Configure place asked over) pane fits is = fits
 edited-place (Title text) pane fits is = is
 edited-place Dock pane fits is = is
 edited-place (Hints hints) pane fits is = is
+edited-place (Flags flags) pane fits is = is
+edited-place (Fill flags place) pane fits is = fits
 edited-place (Class class name) pane fits is = is
 edited-place (Cursor cursor) pane fits is = is
 
@@ -40,12 +50,14 @@ keeps-others : (slot : ℕ) (old new : List Tile) → KeepsAll old new → Keeps
 keeps-others slot old new keeps s x y other = keeps s x y
 
 pub edits-others : (edit : Edit) (slot : ℕ) (old new : List Tile) → EditsPixels edit slot old new → KeepsOthers slot old new
-edits-others (Map asked transient) slot old new pixels = keeps-others slot old new pixels
+edits-others (Map asked transient x y over) slot old new pixels = keeps-others slot old new pixels
 edits-others Unmap slot old new pixels = keeps-others slot old new pixels
-edits-others (Configure place asked) slot old new pixels = cuts-others slot place.w place.h old new pixels
+edits-others (Configure place asked over) slot old new pixels = cuts-others slot place.w place.h old new pixels
 edits-others (Title text) slot old new pixels = keeps-others slot old new pixels
 edits-others Dock slot old new pixels = keeps-others slot old new pixels
 edits-others (Hints hints) slot old new pixels = keeps-others slot old new pixels
+edits-others (Flags flags) slot old new pixels = keeps-others slot old new pixels
+edits-others (Fill flags place) slot old new pixels = cuts-others slot place.w place.h old new pixels
 edits-others (Class class name) slot old new pixels = keeps-others slot old new pixels
 edits-others (Cursor cursor) slot old new pixels = keeps-others slot old new pixels
 
@@ -67,19 +79,21 @@ cut-outside slot w h old new cuts x y out =
     ∙ ap (λ b. cond (b && not (ltb x w && ltb y h)) None (colour_at slot x y old)) (eq-eqb slot slot refl)
     ∙ ap (λ b. cond (not b) None (colour_at slot x y old)) out
 
-kept-inside : (old new : List Tile) (e : Entry) (pane : Pane) → pane.place ≡ e.pane.place → KeepsAll old new → StaysInside old e → StaysInside new (with_pane pane e)
-kept-inside old new e pane same keeps inside x y out =
-    keeps e.slot x y ∙ inside x y (ap (λ (p : Rect). ltb x p.w && ltb y p.h) (sym same) ∙ out)
+kept-inside : (old new : List Tile) (e : Entry) (pane : Pane) → pane.place.w ≡ e.pane.place.w → pane.place.h ≡ e.pane.place.h → KeepsAll old new → StaysInside old e → StaysInside new (with_pane pane e)
+kept-inside old new e pane wide high keeps inside x y out =
+    keeps e.slot x y ∙ inside x y (ap (λ n. ltb x n && ltb y e.pane.place.h) (sym wide) ∙ ap (λ n. ltb x pane.place.w && ltb y n) (sym high) ∙ out)
 
 pub edited-inside : (edit : Edit) (old new : List Tile) (e : Entry) → EditsPixels edit e.slot old new → StaysInside old e → StaysInside new (with_pane (pane_edited edit e.pane) e)
-edited-inside (Map asked transient) old new e pixels inside = kept-inside old new e (pane_edited (Map asked transient) e.pane) refl pixels inside
-edited-inside Unmap old new e pixels inside = kept-inside old new e (pane_edited Unmap e.pane) refl pixels inside
-edited-inside (Configure place asked) old new e pixels inside = cut-outside e.slot place.w place.h old new pixels
-edited-inside (Title text) old new e pixels inside = kept-inside old new e (pane_edited (Title text) e.pane) refl pixels inside
-edited-inside Dock old new e pixels inside = kept-inside old new e (pane_edited Dock e.pane) refl pixels inside
-edited-inside (Hints hints) old new e pixels inside = kept-inside old new e (pane_edited (Hints hints) e.pane) refl pixels inside
-edited-inside (Class class name) old new e pixels inside = kept-inside old new e (pane_edited (Class class name) e.pane) refl pixels inside
-edited-inside (Cursor cursor) old new e pixels inside = kept-inside old new e (pane_edited (Cursor cursor) e.pane) refl pixels inside
+edited-inside (Map asked transient x y over) old new e pixels inside = kept-inside old new e (pane_edited (Map asked transient x y over) e.pane) refl refl pixels inside
+edited-inside Unmap old new e pixels inside = kept-inside old new e (pane_edited Unmap e.pane) refl refl pixels inside
+edited-inside (Configure place asked over) old new e pixels inside = cut-outside e.slot place.w place.h old new pixels
+edited-inside (Title text) old new e pixels inside = kept-inside old new e (pane_edited (Title text) e.pane) refl refl pixels inside
+edited-inside Dock old new e pixels inside = kept-inside old new e (pane_edited Dock e.pane) refl refl pixels inside
+edited-inside (Hints hints) old new e pixels inside = kept-inside old new e (pane_edited (Hints hints) e.pane) refl refl pixels inside
+edited-inside (Flags flags) old new e pixels inside = kept-inside old new e (pane_edited (Flags flags) e.pane) refl refl pixels inside
+edited-inside (Fill flags place) old new e pixels inside = cut-outside e.slot place.w place.h old new pixels
+edited-inside (Class class name) old new e pixels inside = kept-inside old new e (pane_edited (Class class name) e.pane) refl refl pixels inside
+edited-inside (Cursor cursor) old new e pixels inside = kept-inside old new e (pane_edited (Cursor cursor) e.pane) refl refl pixels inside
 
 -- the tiles that a cut leaves are whose they were, and each has a pixel
 swept-owned : (entries : List Entry) (slot w h : ℕ) (ts : List Tile) → list_all (is_owned entries) ts ≡ true → list_all (is_owned entries) (swept slot w h ts) ≡ true
@@ -119,37 +133,49 @@ swept-left slot w h (t ∷ ts) all =
     by false e rest has = rest
 
 pub edited-owned : (edit : Edit) (entries : List Entry) (slot : ℕ) (ts : List Tile) → list_all (is_owned entries) ts ≡ true → list_all (is_owned entries) (tiles_edited edit slot ts) ≡ true
-edited-owned (Map asked transient) entries slot ts all = all
+edited-owned (Map asked transient x y over) entries slot ts all = all
 edited-owned Unmap entries slot ts all = all
-edited-owned (Configure place asked) entries slot ts all = swept-owned entries slot place.w place.h ts all
+edited-owned (Configure place asked over) entries slot ts all = swept-owned entries slot place.w place.h ts all
 edited-owned (Title text) entries slot ts all = all
 edited-owned Dock entries slot ts all = all
 edited-owned (Hints hints) entries slot ts all = all
+edited-owned (Flags flags) entries slot ts all = all
+edited-owned (Fill flags place) entries slot ts all = swept-owned entries slot place.w place.h ts all
 edited-owned (Class class name) entries slot ts all = all
 edited-owned (Cursor cursor) entries slot ts all = all
 
 pub edited-left : (edit : Edit) (slot : ℕ) (ts : List Tile) → list_all (λ (t : Tile). has_pixel t.square) ts ≡ true → list_all (λ (t : Tile). has_pixel t.square) (tiles_edited edit slot ts) ≡ true
-edited-left (Map asked transient) slot ts all = all
+edited-left (Map asked transient x y over) slot ts all = all
 edited-left Unmap slot ts all = all
-edited-left (Configure place asked) slot ts all = swept-left slot place.w place.h ts all
+edited-left (Configure place asked over) slot ts all = swept-left slot place.w place.h ts all
 edited-left (Title text) slot ts all = all
 edited-left Dock slot ts all = all
 edited-left (Hints hints) slot ts all = all
+edited-left (Flags flags) slot ts all = all
+edited-left (Fill flags place) slot ts all = swept-left slot place.w place.h ts all
 edited-left (Class class name) slot ts all = all
 edited-left (Cursor cursor) slot ts all = all
+
+-- what a cut leaves of a row's pixels
+cut-contents : (guest : ℕ) (held : List Tile) (e : Entry) (place : Rect) → StaysInside held e → CutsAway e.slot place.w place.h held (swept e.slot place.w place.h held)
+    → contents_in e.slot place.w place.h (swept e.slot place.w place.h held) ≡ contents_at_size (own_row guest held e) place.w place.h
+cut-contents guest held e place inside pixels =
+    grid-same (λ p. colour_at e.slot p.0 p.1 (swept e.slot place.w place.h held)) (λ p. content_at (own_row guest held e) p.0 p.1) 0 0 place.w place.h
+    (λ x y _ across _ down. cut-inside e.slot place.w place.h held (swept e.slot place.w place.h held) pixels x y (omega (arith, across)) (omega (arith, down)) ∙ sym (content-seen guest held e x y inside))
 
 -- the row of an entry with a changed pane, and what is left of what was read
 edited-same : (guest : ℕ) (edit : Edit) (held : List Tile) (e : Entry) → StaysInside held e → EditsPixels edit e.slot held (tiles_edited edit e.slot held)
     → own_row guest (tiles_edited edit e.slot held) (with_pane (pane_edited edit e.pane) e) ≡ row_edited edit (own_row guest held e)
-edited-same guest (Map asked transient) held e inside pixels = refl
+edited-same guest (Map asked transient x y over) held e inside pixels = refl
 edited-same guest Unmap held e inside pixels = refl
-edited-same guest (Configure place asked) held e inside pixels =
-    ap (λ c. let r : Row = record (own_row guest held e) { place = place; asked = asked; over = if e.pane.mapped then false else e.pane.over; contents = c } in r)
-    (grid-same (λ p. colour_at e.slot p.0 p.1 (swept e.slot place.w place.h held)) (λ p. content_at (own_row guest held e) p.0 p.1) 0 0 place.w place.h
-    (λ x y _ across _ down. cut-inside e.slot place.w place.h held (swept e.slot place.w place.h held) pixels x y (omega (arith, across)) (omega (arith, down)) ∙ sym (content-seen guest held e x y inside)))
+edited-same guest (Configure place asked over) held e inside pixels =
+    ap (λ c. let r : Row = record (own_row guest held e) { place = place; asked = asked; over = over; contents = c } in r) (cut-contents guest held e place inside pixels)
 edited-same guest (Title text) held e inside pixels = refl
 edited-same guest Dock held e inside pixels = refl
 edited-same guest (Hints hints) held e inside pixels = refl
+edited-same guest (Flags flags) held e inside pixels = refl
+edited-same guest (Fill flags place) held e inside pixels =
+    ap (λ c. let r : Row = record (own_row guest held e) { place = place; flags = flags; contents = c } in r) (cut-contents guest held e place inside pixels)
 edited-same guest (Class class name) held e inside pixels = refl
 edited-same guest (Cursor cursor) held e inside pixels = refl
 

@@ -10,6 +10,8 @@ pub mod AreaLemmas
 pub mod TextLemmas
 pub mod ReplyLemmas
 pub mod HeadLemmas
+pub mod PlaceLemmas
+pub mod GrantLemmas
 pub mod ObeyLemmas
 pub mod FrontFacts
 pub mod TurnLemmas

@@ -9,21 +9,18 @@ use Rattle.std.proofs.lemmas.Int.{ints}
 use Rattle.gui_num.specs.declared.Rect.{Rect}
 use Rattle.gui_wire.specs.declared.Header.{Header}
 use Rattle.gui_wire.specs.AgentMessages as agent
-use Rattle.gui_wire.specs.AgentMessages.{AgentMessage, kind_of, HasSpelling}
+use Rattle.gui_wire.specs.AgentMessages.{AgentMessage, HasSpelling}
 use Rattle.gui_wire.specs.Seen.{references}
 use Rattle.desk_laws.specs.declared.cause.Cause.{Cause}
 use Rattle.desk_laws.specs.declared.cause.Cause.TheVariants.{BadRange, BadLength, RefRange}
-use Rattle.desk_laws.specs.Stage.{takes_type}
 use Rattle.desk_laws.specs.Sizes.{Sizes}
 use Rattle.desk_laws.specs.Frames.{PortState}
-use Rattle.desk_laws.specs.Rows.{Row, row_with, placed_at}
+use Rattle.desk_laws.specs.Rows.{Row, row_with}
 use Rattle.desk_laws.specs.Ranges.{rect_in_range}
-use Rattle.desk_laws.specs.Override.{effective, taken_besides}
-use Rattle.desk_laws.specs.Effects.{Change, Replaced, Removed, Added, Verdict, Ends, Goes, unless, first_of_causes, high_bit, out_of, wrong_count, pages_for, clipped, reads, Greets, Reads, range_fault, unknown, exists_already, too_many, bad_ref, over_budget, refs_besides, in_range_verdict, message_to, message_to_window, message_verdict, isnt_zero, id_if, configured_row, placed_by, tells_place, acks, created}
+use Rattle.desk_laws.specs.Effects.{Change, Replaced, Removed, Added, Verdict, Ends, Goes, unless, first_of_causes, high_bit, out_of, wrong_count, pages_for, clipped, reads, Greets, Reads, range_fault, unknown, exists_already, too_many, bad_ref, over_budget, refs_besides, in_range_verdict, message_to, message_to_window, message_verdict, isnt_zero, id_if, mapped_row, configured_row, flags_after, tells_move, acks, created}
 use Rattle.desk_laws.specs.Scene.{Post}
 use Rattle.desk_laws.specs.Checks.{first_cause, rows_fault}
 use Rattle.desk_laws.proofs.CheckLemmas.{row_with-window, verdict-first_cause}
-use Rattle.desk_laws.proofs.VerdictLemmas.{map-verdict}
 use Rattle.message_checks.specs.declared.command.Command.{Command}
 use Rattle.message_checks.specs.declared.command.Command.TheVariants.{Create, Destroy, Map, Unmap, Configure, Shmimage, Clip, Name, Dock, Hints, Flags, Class, Dump, Cursor}
 use Rattle.message_checks.specs.Commands.{IsCommandOf}
@@ -31,8 +28,10 @@ use Rattle.guest_session.specs.declared.edit.Edit.TheVariants as edit
 use Rattle.guest_session.specs.SessionView.{IsPlace}
 use Rattle.guest_session.specs.RowsView.{RowsView, FitsDump}
 use Rattle.guest_session.specs.Edits.{row_edited}
+use Rattle.guest_session.specs.Placing.{flagged_row, tells_full, tells_row}
 use Rattle.guest_session.specs.Reading.{ReadsAs}
 use Rattle.guest_session.specs.Obeyed.{Answered, AnsweredFor, Changes, Quiet, Looked, Obeyed, CanObey, Carries}
+use Rattle.guest_session.proofs.PlaceLemmas.{flagged-goes}
 
 -- ---- no cause
 
@@ -53,17 +52,6 @@ room-left own window e = grind (arith, nat_tests)
 
 within-budget : (need pages : ℕ) → over_budget need pages ≡ None → need ≤ pages
 within-budget need pages e = grind (arith, nat_tests)
-
--- ---- CONFIGURE, while no window is placed by itself
-
-pub configured-is : (sizes : Sizes) (own : List Row) (asked : Bool) (place : Rect) (row : Row)
-    → configured_row sizes own asked place row ≡ row_edited (edit.Configure place asked) row
-configured-is sizes own asked place row = by row.mapped
-  where
-    by : (b : Bool) → cond b (placed_by (effective sizes asked place (taken_besides sizes.border row.window own)) (record row { asked = asked })) (placed_at place (record row { asked = asked }))
-        ≡ record (placed_at place row) { asked = asked; over = cond b false row.over }
-    by true = refl
-    by false = refl
 
 -- ---- from a command to its message
 
@@ -99,7 +87,7 @@ module _ {O : Type 0} (takes : O → Post → O → Type 0) (out out' : O) (port
 
   create-done : (x y width height parent override_redirect : ℕ) (rect : Rect) → rect ≡ rect_in_range x y width height
       → rows_fault old.pages old.rows window (agent.Create x y width height parent override_redirect) ≡ None
-      → Changes takes out out' old new minor window (Create rect parent override_redirect)
+      → Changes takes out out' old new sizes minor window (Create rect parent override_redirect)
       → Done (agent.Create x y width height parent override_redirect)
   create-done x y width height parent override_redirect rect place none done =
       let change : Rect → Change = λ r. Added (created old.guest window r (id_if (is_some (row_with parent old.rows)) parent) (isnt_zero override_redirect)) in
@@ -108,16 +96,12 @@ module _ {O : Type 0} (takes : O → Post → O → Type 0) (out out' : O) (port
 
   configure-done : (x y width height override_redirect : ℕ) (rect : Rect) → rect ≡ rect_in_range x y width height
       → rows_fault old.pages old.rows window (agent.Configure x y width height override_redirect) ≡ None
-      → Changes takes out out' old new minor window (Configure rect override_redirect)
+      → Changes takes out out' old new sizes minor window (Configure rect override_redirect)
       → Done (agent.Configure x y width height override_redirect)
   configure-done x y width height override_redirect rect place none done =
-      let asked = isnt_zero override_redirect in
-      let new_row : Row → Row = row_edited (edit.Configure rect asked) in
-      on-row (agent.Configure x y width height override_redirect) (λ row. Replaced (new_row row)) (λ row. tells_place window rect (new_row row).over ∷ []) refl none
-      (λ row found.
-      ap (λ r. let n = configured_row sizes old.rows asked r row in Goes (Replaced n) (tells_place n.window n.place n.over ∷ [])) (sym place)
-      ∙ ap (λ (n : Row). Goes (Replaced n) (tells_place n.window n.place n.over ∷ [])) (configured-is sizes old.rows asked rect row)
-      ∙ ap (λ w. Goes (Replaced (new_row row)) (tells_place w rect (new_row row).over ∷ [])) (window-of row found))
+      let new_row : Rect → Row → Row = configured_row sizes old.rows (isnt_zero override_redirect) in
+      on-row (agent.Configure x y width height override_redirect) (λ row. Replaced (new_row rect row)) (λ row. tells_row (new_row rect row) ∷ []) refl none
+      (λ row found. ap (λ r. Goes (Replaced (new_row r row)) (tells_row (new_row r row) ∷ [])) (sym place))
       done
 
   dump-done : (kind width height bpp : ℕ) (refs : List ℕ)
@@ -137,7 +121,7 @@ module _ {O : Type 0} (takes : O → Post → O → Type 0) (out out' : O) (port
 
   abbrev Carried : AgentMessage → Command → Type 0
   Carried m command =
-      rows_fault old.pages old.rows window m ≡ None → takes_type (kind_of m) ≡ true → IsQuiet command → Changes takes out out' old new minor window command → Done m
+      rows_fault old.pages old.rows window m ≡ None → IsQuiet command → Changes takes out out' old new sizes minor window command → Done m
 
   along : (m n : AgentMessage) (command : Command) → m ≡ n → Carried n command → Carried m command
   along m n command e = let P : AgentMessage → Type 0 = λ x. Carried x command in subst P (sym e)
@@ -145,45 +129,50 @@ module _ {O : Type 0} (takes : O → Post → O → Type 0) (out out' : O) (port
   command-done : (m : AgentMessage) (command : Command) → IsCommandOf m command → Carried m command
   command-done m (Create rect parent o) is =
       along m (agent.Create is.0 is.1 is.2 is.3 parent o) (Create rect parent o) is.4
-      (λ none t quiet done. create-done is.0 is.1 is.2 is.3 parent o rect is.5 none done)
+      (λ none quiet done. create-done is.0 is.1 is.2 is.3 parent o rect is.5 none done)
   command-done m Destroy is =
       along m agent.Destroy Destroy is
-      (λ none t quiet done. on-row agent.Destroy (λ row. Removed window) (λ row. []) refl none
+      (λ none quiet done. on-row agent.Destroy (λ row. Removed window) (λ row. []) refl none
       (λ row found. ap (λ w. Goes (Removed w) []) (window-of row found)) done)
   command-done m (Map transient o) is =
       along m (agent.Map transient o) (Map transient o) is
-      (λ none t quiet done.
-      on-row (agent.Map transient o) (λ row. Replaced (row_edited (edit.Map (isnt_zero o) (id_if (is_some (row_with transient old.rows)) transient)) row)) (λ row. []) refl none
-      (λ row found. map-verdict sizes minor old.rows len transient o row) done)
+      (λ none quiet done.
+      let mapped : Row → Row = mapped_row sizes old.rows (isnt_zero o) (id_if (is_some (row_with transient old.rows)) transient) in
+      on-row (agent.Map transient o) (λ row. Replaced (mapped row)) (λ row. tells_move row (mapped row)) refl none
+      (λ row found. refl) done)
   command-done m Unmap is =
       along m agent.Unmap Unmap is
-      (λ none t quiet done. on-row agent.Unmap (λ row. Replaced (row_edited edit.Unmap row)) (λ row. []) refl none (λ row found. refl) done)
+      (λ none quiet done. on-row agent.Unmap (λ row. Replaced (row_edited edit.Unmap row)) (λ row. []) refl none (λ row found. refl) done)
   command-done m (Configure rect o) is =
       along m (agent.Configure is.0 is.1 is.2 is.3 o) (Configure rect o) is.4
-      (λ none t quiet done. configure-done is.0 is.1 is.2 is.3 o rect is.5 none done)
-  command-done m (Shmimage x y width height) is = along m (agent.Shmimage x y width height) (Shmimage x y width height) is (λ none t quiet done. absurd quiet)
+      (λ none quiet done. configure-done is.0 is.1 is.2 is.3 o rect is.5 none done)
+  command-done m (Shmimage x y width height) is = along m (agent.Shmimage x y width height) (Shmimage x y width height) is (λ none quiet done. absurd quiet)
   command-done m (Clip bytes) is =
       along m (agent.ClipData bytes.now) (Clip bytes) is
-      (λ none t quiet done. record { answer = refl; done = done; unread = refl })
+      (λ none quiet done. record { answer = refl; done = done; unread = refl })
   command-done m (Name text) is =
       along m (agent.Name text.now) (Name text) is
-      (λ none t quiet done. on-row (agent.Name text.now) (λ row. Replaced (row_edited (edit.Title text) row)) (λ row. []) refl none (λ row found. refl) done)
+      (λ none quiet done. on-row (agent.Name text.now) (λ row. Replaced (row_edited (edit.Title text) row)) (λ row. []) refl none (λ row found. refl) done)
   command-done m Dock is =
       along m agent.Dock Dock is
-      (λ none t quiet done. on-row agent.Dock (λ row. Replaced (row_edited edit.Dock row)) (λ row. []) refl none (λ row found. refl) done)
+      (λ none quiet done. on-row agent.Dock (λ row. Replaced (row_edited edit.Dock row)) (λ row. []) refl none (λ row found. refl) done)
   command-done m (Hints hints) is =
       along m (agent.Hints hints) (Hints hints) is
-      (λ none t quiet done. on-row (agent.Hints hints) (λ row. Replaced (row_edited (edit.Hints hints) row)) (λ row. []) refl none (λ row found. refl) done)
-  command-done m (Flags flags_set flags_unset) is = along m (agent.Flags flags_set flags_unset) (Flags flags_set flags_unset) is (λ none t quiet done. absurd cc)
+      (λ none quiet done. on-row (agent.Hints hints) (λ row. Replaced (row_edited (edit.Hints hints) row)) (λ row. []) refl none (λ row found. refl) done)
+  command-done m (Flags flags_set flags_unset) is = along m (agent.Flags flags_set flags_unset) (Flags flags_set flags_unset) is
+      (λ none quiet done.
+      on-row (agent.Flags flags_set flags_unset) (λ row. Replaced (flagged_row sizes (flags_after row.flags flags_set flags_unset) row))
+      (λ row. tells_full sizes (flags_after row.flags flags_set flags_unset) row) refl none
+      (λ row found. flagged-goes sizes row (flags_after row.flags flags_set flags_unset)) done)
   command-done m (Class class name) is =
       along m (agent.Class class.now name.now) (Class class name) is
-      (λ none t quiet done. on-row (agent.Class class.now name.now) (λ row. Replaced (row_edited (edit.Class class name) row)) (λ row. []) refl none (λ row found. refl) done)
+      (λ none quiet done. on-row (agent.Class class.now name.now) (λ row. Replaced (row_edited (edit.Class class name) row)) (λ row. []) refl none (λ row found. refl) done)
   command-done m (Dump kind width height bpp refs) is =
       along m (agent.WindowDump kind width height bpp (references refs)) (Dump kind width height bpp refs) is
-      (λ none t quiet done. dump-done kind width height bpp (references refs) none done)
+      (λ none quiet done. dump-done kind width height bpp (references refs) none done)
   command-done m (Cursor cursor) is =
       along m (agent.Cursor cursor) (Cursor cursor) is
-      (λ none t quiet done. on-row (agent.Cursor cursor) (λ row. Replaced (row_edited (edit.Cursor cursor) row)) (λ row. []) refl none (λ row found. refl) done)
+      (λ none quiet done. on-row (agent.Cursor cursor) (λ row. Replaced (row_edited (edit.Cursor cursor) row)) (λ row. []) refl none (λ row found. refl) done)
 
 -- what becomes of a reading
 looked : {O : Type 0} (takes : O → Post → O → Type 0) (out out' : O) (port port' : PortState) (old new : RowsView) (result : Result (Option Rect) Cause) (v : Verdict)
@@ -207,39 +196,39 @@ module _ {O : Type 0} (takes : O → Post → O → Type 0) (out out' : O) (port
       (looked takes out out' port port' old new result (reads sizes old.rows f.0 (clipped f.0 f.0.dump x y width height)) (done.read sizes tiles f.0 f.1) done.silent)
 
   -- what became of a message of which nothing is read
-  quiet-came : (m : AgentMessage) (command : Command) → IsQuiet command → IsCommandOf m command → rows_fault old.pages old.rows window m ≡ None → takes_type (kind_of m) ≡ true
-      → Quiet takes out out' port port' old new result minor window command → Came m
-  quiet-came m command quiet is none t done =
+  quiet-came : (m : AgentMessage) (command : Command) → IsQuiet command → IsCommandOf m command → rows_fault old.pages old.rows window m ≡ None
+      → Quiet takes out out' port port' old new result sizes minor window command → Came m
+  quiet-came m command quiet is none done =
       let P : PortState → Result (Option Rect) Cause → Type 0 = λ q r. Carries takes out out' port q old new r (in_range_verdict sizes old.guest minor old.rows window len m) in
       let Q : PortState → Type 0 = λ q. P q (Ok None) in
       subst (P port') (sym done.answer) (subst Q (sym done.unread)
-      (command-done takes out out' port old new sizes minor window len pages m command is none t quiet done.changes))
+      (command-done takes out out' port old new sizes minor window len pages m command is none quiet done.changes))
 
-  command-came : (m : AgentMessage) (command : Command) → IsCommandOf m command → rows_fault old.pages old.rows window m ≡ None → takes_type (kind_of m) ≡ true
-      → Obeyed takes out out' port port' old new result minor window command → Came m
-  command-came m (Shmimage x y width height) is none t done =
+  command-came : (m : AgentMessage) (command : Command) → IsCommandOf m command → rows_fault old.pages old.rows window m ≡ None
+      → Obeyed takes out out' port port' old new result sizes minor window command → Came m
+  command-came m (Shmimage x y width height) is none done =
       let P : AgentMessage → Type 0 = λ n. rows_fault old.pages old.rows window n ≡ None → Came n in
       subst P (sym is) (λ none. shmimage-came x y width height none done) none
-  command-came m (Create rect parent o) is none t done = quiet-came m (Create rect parent o) tt is none t done
-  command-came m Destroy is none t done = quiet-came m Destroy tt is none t done
-  command-came m (Map transient o) is none t done = quiet-came m (Map transient o) tt is none t done
-  command-came m Unmap is none t done = quiet-came m Unmap tt is none t done
-  command-came m (Configure rect o) is none t done = quiet-came m (Configure rect o) tt is none t done
-  command-came m (Clip bytes) is none t done = quiet-came m (Clip bytes) tt is none t done
-  command-came m (Name text) is none t done = quiet-came m (Name text) tt is none t done
-  command-came m Dock is none t done = quiet-came m Dock tt is none t done
-  command-came m (Hints hints) is none t done = quiet-came m (Hints hints) tt is none t done
-  command-came m (Flags flags_set flags_unset) is none t done = quiet-came m (Flags flags_set flags_unset) tt is none t done
-  command-came m (Class class name) is none t done = quiet-came m (Class class name) tt is none t done
-  command-came m (Dump kind width height bpp refs) is none t done = quiet-came m (Dump kind width height bpp refs) tt is none t done
-  command-came m (Cursor cursor) is none t done = quiet-came m (Cursor cursor) tt is none t done
+  command-came m (Create rect parent o) is none done = quiet-came m (Create rect parent o) tt is none done
+  command-came m Destroy is none done = quiet-came m Destroy tt is none done
+  command-came m (Map transient o) is none done = quiet-came m (Map transient o) tt is none done
+  command-came m Unmap is none done = quiet-came m Unmap tt is none done
+  command-came m (Configure rect o) is none done = quiet-came m (Configure rect o) tt is none done
+  command-came m (Clip bytes) is none done = quiet-came m (Clip bytes) tt is none done
+  command-came m (Name text) is none done = quiet-came m (Name text) tt is none done
+  command-came m Dock is none done = quiet-came m Dock tt is none done
+  command-came m (Hints hints) is none done = quiet-came m (Hints hints) tt is none done
+  command-came m (Flags flags_set flags_unset) is none done = quiet-came m (Flags flags_set flags_unset) tt is none done
+  command-came m (Class class name) is none done = quiet-came m (Class class name) tt is none done
+  command-came m (Dump kind width height bpp refs) is none done = quiet-came m (Dump kind width height bpp refs) tt is none done
+  command-came m (Cursor cursor) is none done = quiet-came m (Cursor cursor) tt is none done
 
 -- what became of a message without a cause, by what was done
 pub message-carried : {O : Type 0} (takes : O → Post → O → Type 0) (out out' : O) (port port' : PortState) (old new : RowsView) (result : Result (Option Rect) Cause) (sizes : Sizes) (minor : ℕ) (header : Header) (m : AgentMessage) (command : Command)
-    → sizes.pages ≡ old.pages → sizes.tiles ≡ old.tiles → IsCommandOf m command → first_cause old.pages old.rows header m ≡ None → takes_type (kind_of m) ≡ true
-    → Obeyed takes out out' port port' old new result minor header.window command
+    → sizes.pages ≡ old.pages → sizes.tiles ≡ old.tiles → IsCommandOf m command → first_cause old.pages old.rows header m ≡ None
+    → Obeyed takes out out' port port' old new result sizes minor header.window command
     → Carries takes out out' port port' old new result (message_verdict sizes old.guest minor old.rows header (Some m))
-message-carried takes out out' port port' old new result sizes minor header m command pages tiles is none taken done =
+message-carried takes out out' port port' old new result sizes minor header m command pages tiles is none done =
     let parts = first-none (range_fault header.window header.len m) (rows_fault old.pages old.rows header.window m ∷ []) none in
     let fault : rows_fault old.pages old.rows header.window m ≡ None = (first-none (rows_fault old.pages old.rows header.window m) [] parts.1).0 in
     let v : message_verdict sizes old.guest minor old.rows header (Some m) ≡ in_range_verdict sizes old.guest minor old.rows header.window header.len m =
@@ -247,7 +236,7 @@ message-carried takes out out' port port' old new result sizes minor header m co
     ∙ ap (λ n. unless (first_cause n old.rows header m) (in_range_verdict sizes old.guest minor old.rows header.window header.len m)) pages
     ∙ ap (λ o. unless o (in_range_verdict sizes old.guest minor old.rows header.window header.len m)) none in
     let P : Verdict → Type 0 = λ w. Carries takes out out' port port' old new result w in
-    subst P (sym v) (command-came takes out out' port port' old new result sizes minor header.window header.len pages tiles m command is fault taken done)
+    subst P (sym v) (command-came takes out out' port port' old new result sizes minor header.window header.len pages tiles m command is fault done)
 
 -- what became of a message with a cause
 pub message-refused : {O : Type 0} (takes : O → Post → O → Type 0) (out : O) (port : PortState) (old : RowsView) (sizes : Sizes) (minor : ℕ) (header : Header) (m : AgentMessage) (cause : Cause)

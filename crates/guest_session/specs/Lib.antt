@@ -5,6 +5,7 @@ pub mod Turns
 pub mod Numbers
 pub mod RowsView
 pub mod Edits
+pub mod Placing
 pub mod Obeyed
 pub mod Parts
 pub mod Reading

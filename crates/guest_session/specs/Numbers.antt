@@ -1,4 +1,5 @@
 -- The numbers of a setup, as a session keeps them.
+use Rattle.std.specs.Prelude.{◌*◌, ◌≤◌}
 use Rattle.desk_laws.specs.Sizes.{Sizes}
 use Rattle.guest_session.specs.declared.numbers.Numbers.{Numbers}
 
@@ -12,3 +13,11 @@ sizes_in numbers = record {
   tiles = numbers.tiles;
   percent = numbers.percent;
 }
+
+-- the numbers fit a desktop: its sides, its pixels, its border, and the percent of it that override windows may take
+pub record FitDesk (numbers : Numbers) : Type 0 where
+  pub wide : numbers.width ≤ 8192
+  pub high : numbers.height ≤ 8192
+  pub pixels : numbers.width * numbers.height ≤ 33177600
+  pub border : numbers.border ≤ 16
+  pub percent : numbers.percent ≤ 90

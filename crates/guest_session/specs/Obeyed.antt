@@ -6,7 +6,7 @@ use Rattle.desk_laws.specs.declared.cause.Cause.{Cause}
 use Rattle.desk_laws.specs.Sizes.{Sizes}
 use Rattle.desk_laws.specs.Rows.{Row, row_with}
 use Rattle.desk_laws.specs.Frames.{PortState}
-use Rattle.desk_laws.specs.Effects.{Change, Same, Added, Replaced, Removed, Area, clipped, reads, Verdict, Ends, Greets, Goes, Reads, created, id_if, isnt_zero, tells_place, acks, refs_besides}
+use Rattle.desk_laws.specs.Effects.{Change, Same, Added, Replaced, Removed, Area, clipped, reads, Verdict, Ends, Greets, Goes, Reads, created, id_if, isnt_zero, mapped_row, configured_row, flags_after, tells_move, acks, refs_besides}
 use Rattle.desk_laws.specs.Scene.{Post, replies}
 use Rattle.io_ports.specs.Posts.{Leads}
 use Rattle.message_checks.specs.declared.command.Command.{Command}
@@ -17,6 +17,7 @@ use Rattle.guest_session.specs.SessionView.{IsPlace}
 use Rattle.guest_session.specs.RowsView.{RowsView, FitsDump, with_change, with_dump}
 use Rattle.guest_session.specs.Reading.{ReadsArea, ReadsAs}
 use Rattle.guest_session.specs.Edits.{row_edited}
+use Rattle.guest_session.specs.Placing.{flagged_row, tells_full, tells_row}
 
 -- the rows changed like this, and the guest was answered
 pub record Answered {O : Type 0} (takes : O → Post → O → Type 0) (out out' : O) (old new : RowsView) (change : Change) (answers : List (List ℕ)) : Type 0 where
@@ -33,36 +34,41 @@ abbrev pub Edited : {O : Type 0} → (O → Post → O → Type 0) → O → O �
 Edited takes out out' old new window change =
     AnsweredFor takes out out' old new window (row_edited change) (λ row. [])
 
--- what a command for a window did to the rows, and what was answered, under this minor version; nothing is
--- said of SHMIMAGE, which reads, and of a message that isn't taken
-abbrev pub Changes : {O : Type 0} → (O → Post → O → Type 0) → O → O → RowsView → RowsView → ℕ → ℕ → Command → Type 0
-Changes takes out out' old new minor window (Create rect parent override_redirect) =
+-- what a command for a window did to the rows, and what was answered, under these numbers and this minor version;
+-- nothing is said of SHMIMAGE, which reads
+abbrev pub Changes : {O : Type 0} → (O → Post → O → Type 0) → O → O → RowsView → RowsView → Sizes → ℕ → ℕ → Command → Type 0
+Changes takes out out' old new sizes minor window (Create rect parent override_redirect) =
     Answered takes out out' old new
     (Added (created old.guest window rect (id_if (is_some (row_with parent old.rows)) parent) (isnt_zero override_redirect))) []
-Changes takes out out' old new minor window Destroy =
+Changes takes out out' old new sizes minor window Destroy =
     (row : Row) → row_with window old.rows ≡ Some row → Answered takes out out' old new (Removed window) []
-Changes takes out out' old new minor window (Map transient_for override_redirect) =
-    Edited takes out out' old new window
-    (edit.Map (isnt_zero override_redirect) (id_if (is_some (row_with transient_for old.rows)) transient_for))
-Changes takes out out' old new minor window Unmap = Edited takes out out' old new window edit.Unmap
-Changes takes out out' old new minor window (Configure rect override_redirect) =
-    AnsweredFor takes out out' old new window (row_edited (edit.Configure rect (isnt_zero override_redirect)))
-    (λ row. tells_place window rect (row_edited (edit.Configure rect (isnt_zero override_redirect)) row).over ∷ [])
-Changes takes out out' old new minor window (Shmimage x y width height) = Unit {0}
-Changes takes out out' old new minor window (Clip bytes) = Answered takes out out' old new Same []
-Changes takes out out' old new minor window (Name text) = Edited takes out out' old new window (edit.Title text)
-Changes takes out out' old new minor window Dock = Edited takes out out' old new window edit.Dock
-Changes takes out out' old new minor window (Hints hints) = Edited takes out out' old new window (edit.Hints hints)
-Changes takes out out' old new minor window (Flags flags_set flags_unset) = Unit {0}
-Changes takes out out' old new minor window (Class class name) = Edited takes out out' old new window (edit.Class class name)
-Changes takes out out' old new minor window (Dump kind width height bpp refs) =
+Changes takes out out' old new sizes minor window (Map transient_for override_redirect) =
+    AnsweredFor takes out out' old new window
+    (mapped_row sizes old.rows (isnt_zero override_redirect) (id_if (is_some (row_with transient_for old.rows)) transient_for))
+    (λ row. tells_move row
+    (mapped_row sizes old.rows (isnt_zero override_redirect) (id_if (is_some (row_with transient_for old.rows)) transient_for) row))
+Changes takes out out' old new sizes minor window Unmap = Edited takes out out' old new window edit.Unmap
+Changes takes out out' old new sizes minor window (Configure rect override_redirect) =
+    AnsweredFor takes out out' old new window (configured_row sizes old.rows (isnt_zero override_redirect) rect)
+    (λ row. tells_row (configured_row sizes old.rows (isnt_zero override_redirect) rect row) ∷ [])
+Changes takes out out' old new sizes minor window (Shmimage x y width height) = Unit {0}
+Changes takes out out' old new sizes minor window (Clip bytes) = Answered takes out out' old new Same []
+Changes takes out out' old new sizes minor window (Name text) = Edited takes out out' old new window (edit.Title text)
+Changes takes out out' old new sizes minor window Dock = Edited takes out out' old new window edit.Dock
+Changes takes out out' old new sizes minor window (Hints hints) = Edited takes out out' old new window (edit.Hints hints)
+Changes takes out out' old new sizes minor window (Flags flags_set flags_unset) =
+    AnsweredFor takes out out' old new window
+    (λ row. flagged_row sizes (flags_after row.flags flags_set flags_unset) row)
+    (λ row. tells_full sizes (flags_after row.flags flags_set flags_unset) row)
+Changes takes out out' old new sizes minor window (Class class name) = Edited takes out out' old new window (edit.Class class name)
+Changes takes out out' old new sizes minor window (Dump kind width height bpp refs) =
     AnsweredFor takes out out' old new window (with_dump width height (references refs)) (λ row. acks minor window)
-Changes takes out out' old new minor window (Cursor cursor) = Edited takes out out' old new window (edit.Cursor cursor)
+Changes takes out out' old new sizes minor window (Cursor cursor) = Edited takes out out' old new window (edit.Cursor cursor)
 
 -- the rows changed and the guest was answered as the command asks for, and no frame was read
-pub record Quiet {O : Type 0} (takes : O → Post → O → Type 0) (out out' : O) (port port' : PortState) (old new : RowsView) (result : Result (Option Rect) Cause) (minor window : ℕ) (command : Command) : Type 0 where
+pub record Quiet {O : Type 0} (takes : O → Post → O → Type 0) (out out' : O) (port port' : PortState) (old new : RowsView) (result : Result (Option Rect) Cause) (sizes : Sizes) (minor window : ℕ) (command : Command) : Type 0 where
   pub answer : result ≡ Ok None
-  pub changes : Changes takes out out' old new minor window command
+  pub changes : Changes takes out out' old new sizes minor window command
   pub unread : port' ≡ port
 
 -- an area of a window was read, or too many tiles would be taken; the guest was answered nothing
@@ -72,11 +78,11 @@ pub record Looked {O : Type 0} (out out' : O) (port port' : PortState) (old new 
   pub silent : out' ≡ out
 
 -- what a command for a window did, under this minor version
-abbrev pub Obeyed : {O : Type 0} → (O → Post → O → Type 0) → O → O → PortState → PortState → RowsView → RowsView → Result (Option Rect) Cause → ℕ → ℕ → Command → Type 0
-Obeyed takes out out' port port' old new result minor window (Shmimage x y width height) =
+abbrev pub Obeyed : {O : Type 0} → (O → Post → O → Type 0) → O → O → PortState → PortState → RowsView → RowsView → Result (Option Rect) Cause → Sizes → ℕ → ℕ → Command → Type 0
+Obeyed takes out out' port port' old new result sizes minor window (Shmimage x y width height) =
     Looked out out' port port' old new result window x y width height
-Obeyed takes out out' port port' old new result minor window command =
-    Quiet takes out out' port port' old new result minor window command
+Obeyed takes out out' port port' old new result sizes minor window command =
+    Quiet takes out out' port port' old new result sizes minor window command
 
 -- a command that can be obeyed: what it needs of the rows, and of itself
 abbrev pub CanObey : RowsView → ℕ → Command → Type 0

@@ -1,5 +1,5 @@
 -- The parts of a session, and the session that they are.
-use Rattle.std.specs.Prelude.{◌≡◌, ℕ, ◌≤◌, Option, Some, None}
+use Rattle.std.specs.Prelude.{◌≡◌, ℕ, Option, Some, None}
 use Rattle.gui_wire.specs.declared.WireFault.{WireFault}
 use Rattle.gui_wire.specs.declared.WireFault.TheVariants.{Kind, Length}
 use Rattle.desk_laws.specs.declared.cause.Cause.{Cause}
@@ -8,6 +8,7 @@ use Rattle.desk_laws.specs.Sizes.{Sizes}
 use Rattle.in_stream.specs.Received.{Received}
 use Rattle.guest_session.specs.declared.numbers.Numbers.{Numbers}
 use Rattle.guest_session.specs.declared.turn.Turn.{Turn}
+use Rattle.guest_session.specs.Numbers.{FitDesk}
 use Rattle.guest_session.specs.declared.turn.Turn.TheVariants.{Ended}
 use Rattle.guest_session.specs.RowsView.{RowsView}
 use Rattle.guest_session.specs.SessionView.{SessionView}
@@ -25,8 +26,7 @@ joined sizes stream rows minor ended = record {
 
 -- the numbers fit a desktop, and the rows are held to the same numbers of pages and tiles
 pub record AreJoined (numbers : Numbers) (rows : RowsView) : Type 0 where
-  pub wide : numbers.width ≤ 8192
-  pub high : numbers.height ≤ 8192
+  pub desk : FitDesk numbers
   pub pages : numbers.pages ≡ rows.pages
   pub tiles : numbers.tiles ≡ rows.tiles
 

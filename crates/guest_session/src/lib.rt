@@ -9,6 +9,7 @@ mod draw;
 mod edit;
 mod numbers;
 mod obey;
+mod place;
 mod read;
 mod replies;
 mod rows;

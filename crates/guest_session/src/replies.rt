@@ -1,5 +1,5 @@
 // What a session tells its guest.
-ghost use Rattle.std.specs.Prelude.{◌≡◌, ◌≤◌, [], ◌∷◌};
+ghost use Rattle.std.specs.Prelude.{◌≡◌, ◌≤◌, [], ◌∷◌, true, if◌then◌else◌};
 ghost use Rattle.desk_laws.specs.Effects as effects;
 ghost use Rattle.desk_laws.specs.Effects.{tells_place, acks, greeting};
 ghost use Rattle.desk_laws.specs.Scene.{Reply, replies};
@@ -65,6 +65,22 @@ pub(crate) fn tell_place<O: Outlet>(guest: u32, window: u32, place: Rect, over: 
     ensures { Leads O.takes out.old (replies guest (tells_place window place over ∷ [])) out.new }
 {
     out.reply(guest, &place_bytes(window, place, over));
+}
+
+// Whether two places are the same.
+fn same_rect(a: Rect, b: Rect) -> bool
+    ensures { result ≡ effects.same_rect a b }
+{
+    (a.x == b.x && a.y == b.y) && (a.w == b.w && a.h == b.h)
+}
+
+// Tells the place of an override-redirect window that was put elsewhere, and nothing where it wasn't.
+pub(crate) fn tell_move<O: Outlet>(guest: u32, window: u32, old: Rect, new: Rect, out: &mut O)
+    ensures { Leads O.takes out.old (replies guest (if effects.same_rect old new then [] else tells_place window new true ∷ [])) out.new }
+{
+    if !same_rect(old, new) {
+        tell_place(guest, window, new, true, out);
+    }
 }
 
 // Acknowledges a dump, from minor version 7 on.

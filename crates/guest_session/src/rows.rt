@@ -1,15 +1,18 @@
 // The windows of one guest, and what its messages do to them.
-ghost use Rattle.std.specs.Prelude.{◌≡◌, ℕ, ◌+◌, ◌-◌, ◌<◌, ◌≤◌, ◌^◌, ◌&&◌, nat_lt, [], true, false, length, map, is_some, Some, None, IfOk, IfSome, MatchOption, MatchResult, if◌then◌else◌};
+ghost use Rattle.std.specs.Prelude.{◌≡◌, ℕ, ◌+◌, ◌-◌, ◌<◌, ◌≤◌, ◌^◌, ◌&&◌, min, nat_lt, slice_get, [], true, false, length, map, is_some, Some, None, IfOk, IfSome, MatchOption, MatchResult, if◌then◌else◌};
 ghost use Rattle.gui_wire.specs.Seen.{message, references};
 ghost use Rattle.desk_laws.specs.Rows.{Row, row_with, span};
+ghost use Rattle.gui_num.specs.Rects.{area, grown};
 ghost use Rattle.desk_laws.specs.Sizes.{Sizes};
+ghost use Rattle.desk_laws.specs.Override.{taken_by, taken_besides};
 ghost use Rattle.desk_laws.specs.Effects.{Added, Removed, clipped, created, id_if, reads, refs_besides};
 ghost use Rattle.desk_laws.specs.Checks.{first_cause};
 ghost use Rattle.message_checks.specs.Commands.{IsCommandOf};
 ghost use Rattle.guest_session.specs.SessionView.{AreRows, IsPlace};
 ghost use Rattle.guest_session.specs.Panes.{ShowsRow};
-ghost use Rattle.tile_store.specs.Held.{colour_at};
-ghost use Rattle.tile_store.specs.Contents.{colour_or};
+ghost use Rattle.tile_store.specs.Held.{colour_at, swept};
+ghost use Rattle.tile_store.specs.Contents.{CutsAway, colour_or};
+ghost use Rattle.guest_session.specs.Placing.{most_taken, standing_of};
 ghost use Rattle.guest_session.specs.RowsView.{FitsDump, with_change, with_row, with_dump};
 ghost use Rattle.guest_session.specs.Edits.{EditsPixels, FitsEdit, row_edited, tiles_edited};
 ghost use Rattle.guest_session.specs.Reading.{ReadsAs, content_in};
@@ -18,13 +21,26 @@ use crate::draw::{clip, read_at, width_of};
 use crate::edit::{Edit, edit_pane};
 use desk_laws::{Cause, Ids};
 use frame_pool::FramePort;
-use gui_num::{NoMemory, Point, Rect};
+use gui_num::{NoMemory, Point, Rect, area, grow};
 use gui_wire::{AgentMsg, Header, Refs};
 use message_checks::{Command, Limits};
 use std::alloc::Global;
 use std::marker::Model;
 use tile_store::Tiles;
 use window_table::{Pane, Table};
+
+// The most pixels that override-redirect windows are counted to take: more than any desktop has.
+const MOST_TAKEN: u64 = 0x1_0000_0000;
+
+// What of a window decides where it is put: its place, whether it is mapped and whether it is an
+// override-redirect window, and its flags.
+#[derive(Clone, Copy)]
+pub(crate) struct Standing {
+    pub(crate) place: Rect,
+    pub(crate) mapped: bool,
+    pub(crate) over: bool,
+    pub(crate) flags: u32,
+}
 
 // The windows of one guest and what was read of their pixels, seen as the rows of the definitions.
 #[derive(Drop)]
@@ -85,15 +101,49 @@ impl Rows {
         }
     }
 
-    // Whether a window that is placed by itself is so after another place was given to it: not where it
-    // is mapped.
-    pub(crate) fn stays_over(&self, window: u32) -> bool
-        ensures { (row : Row) → row_with window self.now.rows ≡ Some row → result ≡ (if row.mapped then false else row.over) }
+    // What of a window decides where it is put, `None` where there is no such window.
+    pub(crate) fn standing(&self, window: u32) -> Option<Standing>
+        ensures is { (row : Row) → row_with window self.now.rows ≡ Some row → result ≡ Some (standing_of row) }
+        ensures place { IfSome result (λ standing. IsPlace standing.place) }
     {
         match self.pane(window) {
-            Some(pane) => !pane.mapped && pane.over,
-            None => false,
+            Some(pane) => Some(Standing {
+                place: pane.place,
+                mapped: pane.mapped,
+                over: pane.over,
+                flags: pane.flags,
+            }),
+            None => None,
         }
+    }
+
+    // The outer areas, in pixels, of the mapped override-redirect windows but this one, together; 2^32
+    // stands for more, too.
+    pub(crate) fn taken_besides(&self, window: u32, border: u32) -> u64
+        requires border { border ≤ 16 }
+        ensures { result ≡ min most_taken (taken_besides border window self.now.rows) }
+    {
+        let mut taken = 0;
+        for i in 0..self.table.len() {
+            taken = MOST_TAKEN.min(taken + self.taken_by(i, window, border));
+        }
+        taken
+    }
+
+    // The outer area, in pixels, of the window with index i, where it is a mapped override-redirect
+    // window other than this one, and 0 else.
+    fn taken_by(&self, i: u32, window: u32, border: u32) -> u64
+        requires i { i < length self.now.rows }
+        requires border { border ≤ 16 }
+        ensures is { (row : Row) → slice_get self.now.rows i ≡ Some row → result ≡ taken_by border window row }
+        ensures small { result ≤ 2 ^ 30 }
+    {
+        let slot = self.table.nth_slot(i);
+        taken_of(
+            self.table.get(slot),
+            self.table.window_at(slot) != window,
+            border,
+        )
     }
 
     // A name of a window that is there, and 0 in the place of another.
@@ -250,12 +300,37 @@ fn colour_of(tiles: &Tiles, slot: u32, place: Rect, x: u32, y: u32) -> Option<u3
     }
 }
 
+// The outer area of a window, in pixels, where it is a mapped override-redirect window, and one of the
+// others.
+fn taken_of(pane: &Pane, other: bool, border: u32) -> u64
+    requires place { IsPlace pane.now.place }
+    requires border { border ≤ 16 }
+    ensures is { result ≡ (if (pane.now.mapped && pane.now.over) && other then area (grown pane.now.place border) else 0) }
+    ensures small { result ≤ 2 ^ 30 }
+{
+    if pane.mapped && pane.over && other {
+        area(grow(pane.place, border))
+    } else {
+        0
+    }
+}
+
+// Forgets what lies outside this size of the window at a slot.
+fn cut_to(tiles: &mut Tiles, slot: u32, place: Rect)
+    ensures tiles { tiles.new ≡ record tiles.old { held = swept slot place.w place.h tiles.old.held } }
+    ensures pixels { CutsAway slot place.w place.h tiles.old.held tiles.new.held }
+{
+    tiles.cut(slot, place.w, place.h);
+}
+
 // Forgets what lies outside the size that a change gives the window at a slot.
 fn cut_for(tiles: &mut Tiles, slot: u32, edit: &Edit<'_>)
     ensures tiles { tiles.new ≡ record tiles.old { held = tiles_edited edit.now slot tiles.old.held } }
     ensures pixels { EditsPixels edit.now slot tiles.old.held tiles.new.held }
 {
-    if let Edit::Configure { place, .. } = *edit {
-        tiles.cut(slot, place.w, place.h);
+    match *edit {
+        Edit::Configure { place, .. } => cut_to(tiles, slot, place),
+        Edit::Fill { place, .. } => cut_to(tiles, slot, place),
+        _ => {}
     }
 }

@@ -102,10 +102,12 @@ impl Session {
     ///
     /// A version word whose major number isn't 1 is refused (`BadVersion`), what `InStream::front` and
     /// `message_checks::check` refuse, and an SHMIMAGE that would take more tiles than are free
-    /// (`PixelBudget`). Answered are the version word, CONFIGURE, and from minor version 7 on
-    /// WINDOW_DUMP; that an agent below version 1.4 isn't told the daemon's own version is this
-    /// project's own. Of the port only this guest's frames are read, each pixel of a reported area
-    /// once, row by row from the top and from left to right.
+    /// (`PixelBudget`). Answered are the version word, CONFIGURE, MAP where it puts the window
+    /// elsewhere, WINDOW_FLAGS where it puts the window on the whole desktop, and from minor version 7
+    /// on WINDOW_DUMP. That an agent below version 1.4 isn't told the daemon's own version is this
+    /// project's own, and so are the limits of override-redirect windows. Of the port only this guest's
+    /// frames are read, each pixel of a reported area once, row by row from the top and from left to
+    /// right.
     pub fn turn<P: FramePort, O: Outlet>(&mut self, port: &mut P, out: &mut O) -> Turn
         requires guest { self.old.guest < P.guests port.old }
         requires pages { P.pages port.old ≡ self.old.sizes.pages }
@@ -164,6 +166,13 @@ impl Session {
         ensures { result ≡ self.now.ended }
     {
         self.ended
+    }
+
+    /// Whether the version word was taken.
+    pub fn greeted(&self) -> bool
+        ensures { result ≡ self.now.stream.greeted }
+    {
+        self.stream.greeted()
     }
 
     /// How many windows the guest has.

@@ -22,6 +22,8 @@ const CONFIGURE: u32 = 134;
 
 const SHMIMAGE: u32 = 136;
 
+const FLAGS: u32 = 145;
+
 const DUMP: u32 = 147;
 
 fn setup_of(alloc: Global, pages: u32, tiles: u32) -> Result<Setup, NoMemory>
@@ -54,20 +56,34 @@ struct Run {
     ghost pages: { port.pages ≡ session.sizes.pages },
 }
 
-// The session of a guest with so many pages and tiles, which sent this version word.
-fn ready(alloc: Global, pages: u32, tiles: u32, word: &[u8; 4]) -> Result<Run, NoMemory> {
-    let setup = setup_of(alloc, pages, tiles)?;
+// The session of a guest under this setup, which sent this version word.
+fn begin(alloc: Global, setup: &Setup, word: &[u8; 4]) -> Result<Run, NoMemory> {
     if setup.first_broken().is_some() {
         return Err(NoMemory);
     }
     let mut run = Run {
-        session: Session::open(alloc, 0, &setup)?,
-        port: TapePort::new(alloc, 1, pages)?,
+        session: Session::open(alloc, 0, setup)?,
+        port: TapePort::new(alloc, 1, setup.pages)?,
         out: PostList::new(alloc),
     };
     run.push(word);
     run.turn();
     Ok(run)
+}
+
+// The session of a guest with so many pages and tiles, which sent this version word.
+fn ready(alloc: Global, pages: u32, tiles: u32, word: &[u8; 4]) -> Result<Run, NoMemory> {
+    begin(alloc, &setup_of(alloc, pages, tiles)?, word)
+}
+
+// The session of a guest on a desktop of 20 columns and so many rows, a quarter of which
+// override-redirect windows may take.
+fn on_desktop(alloc: Global, height: u32) -> Result<Run, NoMemory> {
+    let mut setup = setup_of(alloc, 8192, 4096)?;
+    setup.width = 20;
+    setup.height = height;
+    setup.percent = 25;
+    begin(alloc, &setup, &SEVEN)
 }
 
 impl Run {
@@ -106,6 +122,26 @@ impl Run {
     // What was last read at a pixel of the first row of window 1.
     fn content(&self, x: u32) -> Option<Colour> {
         self.session.content(1, x, 0)
+    }
+
+    // Creates a window that asks for override-redirect, and maps it. Answers whether that is granted.
+    fn map_over(&mut self, window: u32, x: u32, y: u32, width: u32, height: u32) -> bool {
+        self.send(CREATE, window, &[x, y, width, height, 0, 1]);
+        self.send(MAP, window, &[0, 1]);
+        self.is_over(window)
+    }
+
+    // Whether a window is an override-redirect window.
+    fn is_over(&self, window: u32) -> bool {
+        matches!(self.session.pane(window), Some(pane) if pane.over)
+    }
+
+    // The flags of window 1 and the width of its place.
+    fn flags(&self) -> (u32, u32) {
+        match self.session.pane(1) {
+            Some(pane) => (pane.flags, pane.place.w),
+            None => (0, 0),
+        }
     }
 
     fn end(&mut self, cause: Cause) {
@@ -306,5 +342,53 @@ fn refuses_more_tiles_than_are_free(rt: HostRuntime) -> Result<(), NoMemory> {
     let cause = Cause::PixelBudget { a: 2, b: 1 };
     assert_eq!(rt; run.send(SHMIMAGE, 1, &[0, 0, 65, 1]), Turn::Ended(cause));
     assert_eq!(rt; run.left(), 3);
+    Ok(())
+}
+
+#[test]
+fn grants_what_the_limits_allow(rt: HostRuntime) -> Result<(), NoMemory> {
+    // 100 pixels may be taken. With its border a window of 8 by 8 has 100, and one of 8 by 9 has 110.
+    let mut run = on_desktop(rt.alloc(), 20)?;
+    assert!(rt; run.map_over(1, 5, 5, 8, 8));
+    run.send(CONFIGURE, 1, &[5, 5, 8, 9, 1]);
+    assert!(rt; !run.is_over(1));
+    // 64 and 30 are within 100, and 9 more aren't.
+    let mut run = on_desktop(rt.alloc(), 20)?;
+    assert!(rt; run.map_over(1, 5, 5, 6, 6) && run.map_over(2, 5, 5, 3, 4));
+    assert!(rt; !run.map_over(3, 5, 5, 1, 1));
+    assert!(rt; run.out.reply_at(2).is_none());
+    Ok(())
+}
+
+#[test]
+fn puts_what_is_granted_on_the_desktop(rt: HostRuntime) -> Result<(), NoMemory> {
+    let mut run = on_desktop(rt.alloc(), 20)?;
+    assert!(rt; run.map_over(1, 18, 0xffff_fffd, 4, 2));
+    let place = [
+        0x86, 0, 0, 0, 1, 0, 0, 0, 0x14, 0, 0, 0, 15, 0, 0, 0, 1, 0, 0, 0, 4, 0, 0, 0, 2, 0, 0, 0,
+        1, 0, 0, 0,
+    ];
+    assert!(rt; run.said(2, &place));
+    // It is there already.
+    run.send(MAP, 1, &[0, 1]);
+    assert!(rt; run.out.reply_at(3).is_none());
+    Ok(())
+}
+
+#[test]
+fn fills_the_desktop(rt: HostRuntime) -> Result<(), NoMemory> {
+    let mut run = on_desktop(rt.alloc(), 10)?;
+    run.send(CREATE, 1, &[2, 2, 4, 4, 0, 0]);
+    run.send(MAP, 1, &[0, 0]);
+    assert_eq!(rt; run.send(FLAGS, 1, &[1, 0]), changed(1));
+    let place = [
+        0x86, 0, 0, 0, 1, 0, 0, 0, 0x14, 0, 0, 0, 1, 0, 0, 0, 1, 0, 0, 0, 18, 0, 0, 0, 8, 0, 0, 0,
+        0, 0, 0, 0,
+    ];
+    assert!(rt; run.said(2, &place));
+    // It is minimized by a flag that is unset and then set, and no longer fills the desktop.
+    assert_eq!(rt; run.send(FLAGS, 1, &[12, 5]), changed(1));
+    assert_eq!(rt; run.flags(), (4, 18));
+    assert!(rt; run.out.reply_at(3).is_none());
     Ok(())
 }

@@ -1,10 +1,9 @@
 // One unit of a guest's bytes, taken.
 ghost use Rattle.std.specs.Prelude.{◌≡◌, ℕ, ◌<◌, ◌≤◌, List, [], true, false, None};
-ghost use Rattle.desk_laws.specs.Sizes.{Sizes};
 ghost use Rattle.desk_laws.specs.Frames.{PortState};
 ghost use Rattle.desk_laws.specs.Stream as cut;
 ghost use Rattle.in_stream.specs.Received.{StandsFor};
-ghost use Rattle.guest_session.specs.Numbers.{sizes_in};
+ghost use Rattle.guest_session.specs.Numbers.{FitDesk, sizes_in};
 ghost use Rattle.guest_session.specs.Parts.{joined};
 ghost use Rattle.guest_session.specs.Parts as parts;
 ghost use Rattle.guest_session.specs.Turns.{Turns};
@@ -80,19 +79,23 @@ fn take_word<O: Outlet>(
 fn take_front<P: FramePort, O: Outlet>(
     stream: &mut InStream,
     rows: &mut Rows,
+    numbers: &Numbers,
     minor: u32,
     port: &mut P,
     out: &mut O,
 ) -> Turn
+    requires desk { FitDesk numbers.now }
+    requires pages { numbers.now.pages ≡ rows.old.pages }
+    requires tiles { numbers.now.tiles ≡ rows.old.tiles }
     requires greeted { stream.old.greeted ≡ true }
     requires guest { rows.old.guest < P.guests port.old }
     requires port_pages { P.pages port.old ≡ rows.old.pages }
     ensures pages { rows.new.pages ≡ rows.old.pages }
     ensures tiles { rows.new.tiles ≡ rows.old.tiles }
-    ensures turned { (sizes : Sizes) → sizes.pages ≡ rows.old.pages → sizes.tiles ≡ rows.old.tiles → (rest : List ℕ) → StandsFor stream.old rest → Turns O.takes out.old out.new
+    ensures turned { (rest : List ℕ) → StandsFor stream.old rest → Turns O.takes out.old out.new
         (P.state port.old rows.old.guest) (P.state port.new rows.old.guest)
-        (joined sizes stream.old rows.old minor None)
-        (joined sizes stream.new rows.new minor (parts.ended_by result))
+        (joined (sizes_in numbers.now) stream.old rows.old minor None)
+        (joined (sizes_in numbers.now) stream.new rows.new minor (parts.ended_by result))
         result (cut.front true rest) }
     ensures others { (other : ℕ) → (other ≡ rows.old.guest → ⊥) → P.state port.new other ≡ P.state port.old other }
     ensures guests { P.guests port.new ≡ P.guests port.old }
@@ -103,7 +106,7 @@ fn take_front<P: FramePort, O: Outlet>(
             if header.kind == CLIPBOARD_DATA {
                 return Turn::ClipWhole;
             }
-            match take(rows, minor, header, body, port, out) {
+            match take(rows, numbers, minor, header, body, port, out) {
                 Ok(drawn) => {
                     stream.drop_front();
                     Turn::Changed {
@@ -139,8 +142,7 @@ pub(crate) fn take_unit<P: FramePort, O: Outlet>(
     port: &mut P,
     out: &mut O,
 ) -> Turn
-    requires wide { numbers.now.width ≤ 8192 }
-    requires high { numbers.now.height ≤ 8192 }
+    requires desk { FitDesk numbers.now }
     requires pages { numbers.now.pages ≡ rows.old.pages }
     requires tiles { numbers.now.tiles ≡ rows.old.tiles }
     requires guest { rows.old.guest < P.guests port.old }
@@ -157,7 +159,7 @@ pub(crate) fn take_unit<P: FramePort, O: Outlet>(
     ensures port_pages { P.pages port.new ≡ P.pages port.old }
 {
     if stream.greeted() {
-        take_front(stream, rows, *minor, port, out)
+        take_front(stream, rows, numbers, *minor, port, out)
     } else {
         take_word(stream, rows, numbers, minor, out)
     }

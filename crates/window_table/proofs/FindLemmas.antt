@@ -1,11 +1,13 @@
 -- What is found in a table's entries, as they are kept.
-use Rattle.std.proofs.Common.{◌≡◌, ℕ, Bool, true, false, cond, ◌||◌, eqb, List, [], ◌∷◌, find, Option, Some, None, is_some, IsSome, IfSome, option_map, refl, sym, ap, ◌∙◌}
+use Rattle.std.proofs.Common.{◌≡◌, ℕ, ◌<◌, Bool, true, false, cond, ◌||◌, eqb, List, [], ◌∷◌, find, get_or, length, Option, Some, None, is_some, IsSome, IfSome, option_map, refl, sym, ap, ◌∙◌, subst}
+use Rattle.std.specs.Prelude.{slice_get}
 use Rattle.std.proofs.lemmas.Bool.{eqb-true}
+use Rattle.std.proofs.lemmas.Option.{slice_get-map, slice_get_read}
 use Rattle.slab.specs.Slab.{Slab, get}
 use Rattle.window_table.specs.declared.held.Held.{Held}
 use Rattle.window_table.specs.Entries.{entry_at, entry_with}
 use Rattle.window_table.specs.Kept.{window_of, entry_in, entries_of, among, holds}
-use Rattle.window_table.proofs.AmongLemmas.{find-map, found-is}
+use Rattle.window_table.proofs.AmongLemmas.{among-at, find-map, found-is}
 
 module _ (held : Slab Held) (lists : List (List ℕ)) (slot : ℕ) where
   pub at-is : (order : List ℕ) → IsSome (entry_at slot (entries_of held lists order)) →
@@ -81,3 +83,14 @@ known-entry held lists order window =
     same : (o : Option ℕ) → is_some (option_map (entry_in held lists) o) ≡ is_some o
     same None = refl
     same (Some k) = refl
+
+-- the entry at the slot that stands at a place of the order
+pub nth-entry : (held : Slab Held) (lists : List (List ℕ)) (order : List ℕ) (i slot : ℕ) → i < length order → slot ≡ get_or order i slot →
+    (IsSome (entry_at slot (entries_of held lists order))) × (entry_at slot (entries_of held lists order) ≡ slice_get (entries_of held lists order) i)
+nth-entry held lists order i slot l e =
+    let here : among slot order ≡ true = subst (λ n. among n order ≡ true) (sym e) (among-at order i slot l) in
+    let some = among-entry held lists slot order here in (
+      some,
+      at-is held lists slot order some
+          ∙ sym (slice_get-map (entry_in held lists) order i ∙ ap (option_map (entry_in held lists)) (slice_get_read order (length order) i slot refl l e)),
+    )

@@ -1,5 +1,5 @@
 // The windows of one guest.
-ghost use Rattle.std.specs.Prelude.{◌≡◌, ℕ, ◌+◌, ◌<◌, ◌≤◌, ◌==◌, not, [], ◌∷◌, ◌++◌, Some, None, IfOk, IfSome, IsSome, length, filter, option_map, is_some, slice_index, vec_capacity, false};
+ghost use Rattle.std.specs.Prelude.{◌≡◌, ℕ, ◌+◌, ◌<◌, ◌≤◌, ◌==◌, not, [], ◌∷◌, ◌++◌, Some, None, IfOk, IfSome, IsSome, length, filter, option_map, is_some, slice_get, slice_index, vec_capacity, false};
 ghost use Rattle.std.specs.Borrow.{sem};
 ghost use Rattle.gui_wire.specs.Seen.{references};
 ghost use Rattle.desk_laws.specs.Effects as effects;
@@ -94,6 +94,15 @@ impl Table {
         ensures few { length self.now.entries ≤ 1024 }
     {
         self.order.len() as u32
+    }
+
+    /// The slot of the window with index i, from 0, in the order in which the windows were added.
+    pub fn nth_slot(&self, i: u32) -> u32
+        requires { i < length self.now.entries }
+        ensures held { IsSome (entry_at result self.now.entries) }
+        ensures nth { entry_at result self.now.entries ≡ slice_get self.now.entries i }
+    {
+        self.order[i as usize]
     }
 
     /// How many page references the windows may have together. They have no more.

@@ -80,6 +80,14 @@ fn shown(table: &Table, window: u32) -> Option<(u32, Option<DumpSize>)> {
     Some((table.window_at(slot), table.dump_at(slot)))
 }
 
+// The window that was added as the number i, counted from 0, of those that are there.
+fn nth(table: &Table, i: u32) -> Option<u32> {
+    if i >= table.len() {
+        return None;
+    }
+    Some(table.window_at(table.nth_slot(i)))
+}
+
 // What a check of a message sees of a window.
 fn seen<I: Ids>(ids: &I, window: u32) -> (bool, u32, u32) {
     (ids.known(window), ids.count(), ids.refs_besides(window))
@@ -120,7 +128,8 @@ fn forgets_who_is_gone(rt: HostRuntime) -> Result<(), Fail> {
     assert_eq!(rt; marks(&table, 3), Some((1, true)));
     assert_eq!(rt; marks(&table, 2), Some((0, false)));
     assert!(rt; take(&mut table, 1));
-    assert_eq!(rt; parent_of(&table, 1), None);
+    assert_eq!(rt; (nth(&table, 0), nth(&table, 1)), (Some(2), Some(3)));
+    assert_eq!(rt; (nth(&table, 2), parent_of(&table, 1)), (None, None));
     assert_eq!(rt; parent_of(&table, 2), Some(0));
     assert_eq!(rt; parent_of(&table, 3), Some(2));
     assert_eq!(rt; marks(&table, 3), Some((0, true)));

@@ -14,7 +14,7 @@ returns-then-greeted-clause-turned g c = λ rest stands.
     let P : Bool → Type 0 = λ b.
     Turns g.O.Outlet.takes c.args.out.now c.take_front.new.out state state' (joined sizes c.args.stream.now c.args.rows.now c.args.minor.now None)
     (joined sizes c.take_front.new.stream c.take_front.new.rows c.args.minor.now (ended_by c.take_front.result)) c.take_front.result (front b rest) in
-    subst P greeted (c.take_front.ensures.turned sizes c.requires.pages c.requires.tiles rest stands)
+    subst P greeted (c.take_front.ensures.turned rest stands)
 
 pub returns-else-greeted-clause-turned : goal.returns-else-greeted-clause-turned
 returns-else-greeted-clause-turned g c = λ rest stands.

@@ -1,0 +1,39 @@
+-- Where a window is put, by what of it decides that.
+use Rattle.std.specs.Prelude.{ℕ, ◌^◌, Bool, false, List, [], ◌∷◌, if◌then◌else◌}
+use Rattle.gui_num.specs.declared.Rect.{Rect}
+use Rattle.desk_laws.specs.Sizes.{Sizes}
+use Rattle.desk_laws.specs.Rows.{Row, placed_at}
+use Rattle.desk_laws.specs.Override.{Placed, effective, taken_besides}
+use Rattle.desk_laws.specs.Effects.{goes_full, whole_desktop, tells_place}
+use Rattle.guest_session.specs.declared.rows.Standing.{Standing}
+
+-- the most pixels that override windows are counted to take: more than any desktop has
+abbrev pub most_taken : ℕ
+most_taken = 2 ^ 32
+
+-- what of a row decides where it is put
+abbrev pub standing_of : Row → Standing
+standing_of row = record { place = row.place; mapped = row.mapped; over = row.over; flags = row.flags }
+
+-- where CONFIGURE puts a window of this standing that asks for this place: by the override rule where it is mapped
+abbrev pub configured_to : Sizes → List Row → ℕ → Standing → Bool → Rect → Placed
+configured_to sizes own window old asked place =
+    if old.mapped
+    then effective sizes asked place (taken_besides sizes.border window own)
+    else record { rect = place; over = old.over }
+
+-- the row once it has these flags: on the whole desktop, where they put it there
+abbrev pub flagged_row : Sizes → ℕ → Row → Row
+flagged_row sizes flags row =
+    if goes_full sizes row flags
+    then placed_at (whole_desktop sizes) (record row { flags = flags })
+    else record row { flags = flags }
+
+-- what is told of a window whose row gets these flags: its place, where they put it on the whole desktop
+abbrev pub tells_full : Sizes → ℕ → Row → List (List ℕ)
+tells_full sizes flags row =
+    if goes_full sizes row flags then tells_place row.window (whole_desktop sizes) false ∷ [] else []
+
+-- the message that tells a row's place, and whether it is in the override layer
+abbrev pub tells_row : Row → List ℕ
+tells_row row = tells_place row.window row.place row.over
