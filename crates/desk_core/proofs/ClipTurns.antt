@@ -16,14 +16,14 @@ use Rattle.desk_laws.proofs.CuttingLemmas.{front-greets}
 use Rattle.in_stream.specs.Received.{StandsFor}
 use Rattle.guest_session.specs.declared.turn.Turn.{Turn}
 use Rattle.guest_session.specs.declared.turn.Turn.TheVariants as turns
-use Rattle.guest_session.specs.SessionView.{SessionView, with_stream}
+use Rattle.guest_session.specs.SessionView.{SessionView, AreRows, with_stream}
 use Rattle.guest_session.specs.Clips.{is_clip}
 use Rattle.guest_session.specs.Turns.{Turns, TakesUnit, Decides, window_of}
-use Rattle.desk_core.specs.DeskView.{DeskView}
-use Rattle.desk_core.specs.DeskStands.{StandsWith}
+use Rattle.desk_core.specs.DeskView.{PartView}
+use Rattle.desk_core.specs.DeskStands.{PartStands}
 use Rattle.desk_core.specs.PieceSteps.{TookSome}
 use Rattle.desk_laws.proofs.FollowChanges.{followed-same}
-use Rattle.desk_core.proofs.StandLemmas.{moved, HadLists, first-frames}
+use Rattle.desk_core.proofs.StandLemmas.{moved}
 use Rattle.desk_core.proofs.UnitTurns.{went-took}
 
 clip-verdict : (sizes : Sizes) (guest minor : ℕ) (own : List Row) (unit : StreamUnit) → is_clip unit ≡ true → verdict sizes guest minor own unit ≡ Goes Same []
@@ -72,29 +72,28 @@ shown-clip takes out out' port port' old new turn (Takes unit behind) c t = by_c
     by_clip true e t = record { unit = unit; behind = behind; is = refl; clip = e; same = t.stays.session; silent = t.stays.silent; unread = t.stays.unread }
     by_clip false e t = absurd (not-decided takes out out' port port' old new turn (window_of unit) behind (verdict old.sizes old.guest old.minor old.rows unit) c t)
 
-pub clip-took : {O : Type 0} (takes : O → Post → O → Type 0) (out : O) (setup : Setup) (held behind : List ℕ) (desk : DeskView) (new : SessionView) (messages : ℕ) (frames frames' : ℕ → PortState) (state : DeskState) (unit : StreamUnit)
-    → StandsWith setup held desk frames state → desk.session.ended ≡ None → front desk.session.stream.greeted held ≡ Takes unit behind → is_clip unit ≡ true
-    → new ≡ with_stream new.stream desk.session → new.stream.greeted ≡ true → StandsFor new.stream behind → frames' desk.session.guest ≡ frames desk.session.guest
-    → messages ≡ counted (desk.messages + 1)
-    → TookSome takes out out setup held desk (moved new desk.layers messages desk.glances desk) frames' state
-clip-took takes out setup held behind desk new messages frames frames' state unit stands going is clip same greeted holds unread count =
-    let s = desk.session in
+pub clip-took : {O : Type 0} (takes : O → Post → O → Type 0) (out : O) (setup : Setup) (guest : ℕ) (held behind : List ℕ) (part : PartView) (new : SessionView) (messages : ℕ) (port port' : PortState) (state : DeskState) (unit : StreamUnit)
+    → PartStands setup guest held part port state → part.session.ended ≡ None → front part.session.stream.greeted held ≡ Takes unit behind → is_clip unit ≡ true
+    → new ≡ with_stream new.stream part.session → new.stream.greeted ≡ true → StandsFor new.stream behind → port' ≡ port
+    → messages ≡ counted (part.messages + 1)
+    → TookSome takes out out setup guest held part (moved new part.layers messages part.glances) port' state
+clip-took takes out setup guest held behind part new messages port port' state unit stands going is clip same greeted holds unread count =
+    let s = part.session in
     let rows : s.rows ≡ new.rows = sym (ap (λ (x : SessionView). x.rows) same) in
-    let L : List Row → Type 0 = λ rs. HadLists rs desk.layers desk.layers in
-    let lists : HadLists s.rows desk.layers desk.layers =
-    record { lists = followed-same s.rows desk.layers stands.followed; follow = stands.followed; own = stands.own } in
-    let kept : frames 0 ≡ frames' 0 = ap frames (sym stands.guest) ∙ sym unread ∙ ap frames' stands.guest in
-    let still : desk.glances ≡ counted (desk.glances + 0) = omega (arith, stands.glances_in_range) in
-    went-took takes out out setup held behind desk new desk.layers messages desk.glances frames frames' state unit (Goes Same []) [] stands going is
+    let O : List Row → Type 0 = λ rs. AreRows guest rs in
+    let still : part.glances ≡ counted (part.glances + 0) = omega (arith, stands.glances_in_range) in
+    went-took takes out out setup guest held behind part new part.layers messages part.glances port port' state unit (Goes Same []) [] stands going is
     (clip-verdict s.sizes s.guest s.minor s.rows unit clip) refl refl
     (record {
       rows = stands.rows ∙ rows;
       minor = (stands.opened going).minor ∙ sym (ap (λ (x : SessionView). x.minor) same);
-      port = first-frames setup held desk frames state stands ∙ kept;
+      port = stands.frames ∙ sym unread;
       greeted = front-greets s.stream.greeted held unit behind is ∙ sym greeted;
       stands = holds;
-      guest = ap (λ (x : SessionView). x.guest) same;
+      owner = ap (λ (x : SessionView). x.guest) same;
       sizes = ap (λ (x : SessionView). x.sizes) same;
       ended = ap (λ (x : SessionView). x.ended) same ∙ going;
     })
-    (subst L rows lists) (record { told = count ∙ ap (λ n. counted (desk.messages + n)) (sym (clip-message unit clip)); read = still }) greeted refl
+    (subst O rows stands.own)
+    (record { lists = followed-same state.scene.rows part.layers stands.followed; follow = stands.followed; apart = stands.apart })
+    (record { told = count ∙ ap (λ n. counted (part.messages + n)) (sym (clip-message unit clip)); read = still }) greeted refl

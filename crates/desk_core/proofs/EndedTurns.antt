@@ -22,41 +22,42 @@ use Rattle.guest_session.specs.declared.turn.Turn.TheVariants as turns
 use Rattle.guest_session.specs.SessionView.{SessionView, IsEnded}
 use Rattle.guest_session.specs.Clips.{is_clip}
 use Rattle.guest_session.specs.Turns.{Turns, TakesUnit, Decides, window_of}
-use Rattle.desk_core.specs.DeskView.{DeskView}
-use Rattle.desk_core.specs.DeskStands.{StandsWith, LeadsTo}
+use Rattle.desk_core.specs.DeskView.{PartView}
+use Rattle.desk_core.specs.DeskStands.{PartStands, LeadsTo}
 use Rattle.desk_core.specs.PieceSteps.{TookSome}
 use Rattle.desk_core.proofs.StandLemmas.{moved}
 use Rattle.desk_core.proofs.EndStands.{ends-stands}
+use Rattle.desk_core.proofs.LeaveLemmas.{unit-leaves}
 use Rattle.desk_core.proofs.UnitTurns.{verdict-same}
 
 -- what comes of a fault, or of a unit that ends the session: whatever bytes follow, the session has ended
-pub ended-took : {O : Type 0} (takes : O → Post → O → Type 0) (out out' : O) (setup : Setup) (held : List ℕ) (desk : DeskView) (new : SessionView) (frames frames' : ℕ → PortState) (state : DeskState) (unit : StreamUnit) (cause : Cause)
-    → StandsWith setup held desk frames state → desk.session.ended ≡ None
-    → ((left : List ℕ) → (others : List StreamUnit) × ((cut desk.session.stream.greeted (held ++ left)).units ≡ unit ∷ others))
-    → verdict desk.session.sizes desk.session.guest desk.session.minor desk.session.rows unit ≡ Ends cause
-    → IsEnded desk.session cause new → frames' desk.session.guest ≡ frames desk.session.guest → takes out (Ended 0 cause) out'
-    → TookSome takes out out' setup held desk (moved new (without_guest 0 desk.layers) desk.messages desk.glances desk) frames' state
-ended-took takes out out' setup held desk new frames frames' state unit cause stands going cuts v_is over unread told =
-    let last = moved new (without_guest 0 desk.layers) desk.messages desk.glances desk in
-    let kept : frames' 0 ≡ frames 0 = ap frames' (sym stands.guest) ∙ unread ∙ ap frames stands.guest in
-    let o = take_unit setup 0 unit state in
-    let e = ends setup 0 (Took unit) cause state in
-    let taken : o ≡ e = taken-by setup 0 unit state (Ends cause) (stands.ended ∙ going) (verdict-same setup held desk frames state unit stands going ∙ v_is) in
-    let stood : StandsWith setup [] last frames' e.desk = ends-stands setup held [] desk new frames frames' state (Took unit) cause stands over kept in
-    let P : StepOutcome → Type 0 = λ x. LeadsTo takes out out' setup [] last frames' x in
-    let led : LeadsTo takes out out' setup [] last frames' o = subst P (sym taken) (stood, (out', told, refl)) in
-    let gone : (session_of 0 o.desk).ended ≡ Some cause = led.0.ended ∙ over.ended in
+pub ended-took : {O : Type 0} (takes : O → Post → O → Type 0) (out out' : O) (setup : Setup) (guest : ℕ) (held : List ℕ) (part : PartView) (new : SessionView) (port port' : PortState) (state : DeskState) (unit : StreamUnit) (cause : Cause)
+    → PartStands setup guest held part port state → part.session.ended ≡ None
+    → ((left : List ℕ) → (others : List StreamUnit) × ((cut part.session.stream.greeted (held ++ left)).units ≡ unit ∷ others))
+    → verdict part.session.sizes part.session.guest part.session.minor part.session.rows unit ≡ Ends cause
+    → IsEnded part.session cause new → port' ≡ port → takes out (Ended guest cause) out'
+    → TookSome takes out out' setup guest held part (moved new (without_guest guest part.layers) part.messages part.glances) port' state
+ended-took takes out out' setup guest held part new port port' state unit cause stands going cuts v_is over unread told =
+    let last = moved new (without_guest guest part.layers) part.messages part.glances in
+    let o = take_unit setup guest unit state in
+    let e = ends setup guest (Took unit) cause state in
+    let taken : o ≡ e = taken-by setup guest unit state (Ends cause) (stands.ended ∙ going) (verdict-same setup guest held part port state unit stands going ∙ v_is) in
+    let stood : PartStands setup guest [] last port' e.desk = ends-stands setup guest held [] part new port port' state (Took unit) cause stands over unread in
+    let P : StepOutcome → Type 0 = λ x. LeadsTo takes out out' setup guest [] last port' x in
+    let led : LeadsTo takes out out' setup guest [] last port' o = subst P (sym taken) (stood, (out', told, refl)) in
+    let gone : (session_of guest o.desk).ended ≡ Some cause = led.0.ended ∙ over.ended in
     record {
       behind = [];
       outcome = o;
       leads = led;
       all = λ left.
           let c = cuts left in
-          ap (λ us. take_units setup 0 us state) c.1
-          ∙ ap (step_after o) (units-left setup 0 c.0 o.desk cause gone ∙ sym (units-left setup 0 (cut new.stream.greeted ([] ++ left)).units o.desk cause gone));
+          ap (λ us. take_units setup guest us state) c.1
+          ∙ ap (step_after o) (units-left setup guest c.0 o.desk cause gone ∙ sym (units-left setup guest (cut new.stream.greeted ([] ++ left)).units o.desk cause gone));
       going = λ _. going;
       rest = λ still left. let x = over.ended in absurd (cc);
       kept = λ still. let x = over.ended in absurd (cc);
+      leaves = unit-leaves setup guest unit state;
     }
 
 fault-of : (c : Option Cause) (header : Header) (bytes : List ℕ) (cause : Cause) → front_of c header bytes ≡ Fault cause → c ≡ Some cause
@@ -95,38 +96,38 @@ not-ended cause false e = cc
 told-cause : (cause cause' : Cause) → turns.Ended cause ≡ turns.Ended cause' → cause ≡ cause'
 told-cause cause cause' e = cc
 
-pub turn-ended : {O : Type 0} (takes : O → Post → O → Type 0) (out mid out' : O) (setup : Setup) (held : List ℕ) (desk : DeskView) (new : SessionView) (cause : Cause) (frames frames' : ℕ → PortState) (state : DeskState) (f : Front)
-    → StandsWith setup held desk frames state → desk.session.ended ≡ None → front desk.session.stream.greeted held ≡ f
-    → Turns takes out mid (frames desk.session.guest) (frames' desk.session.guest) desk.session new (turns.Ended cause) f → takes mid (Ended 0 cause) out'
-    → TookSome takes out out' setup held desk (moved new (without_guest 0 desk.layers) desk.messages desk.glances desk) frames' state
-turn-ended {O = O} takes out mid out' setup held desk new cause frames frames' state stream.Wait stands going is t told = let e = t.answer in absurd (cc)
-turn-ended {O = O} takes out mid out' setup held desk new cause frames frames' state (Fault c) stands going is t told =
-    let C : Cause → Type 0 = λ x. takes mid (Ended 0 x) out' in
-    let M : O → Type 0 = λ m. takes m (Ended 0 c) out' in
-    ended-took takes out out' setup held desk new frames frames' state (Stop c) c stands going
-    (λ left. ([], ap (λ (x : Cut). x.units) (cut-faults desk.session.stream.greeted (held ++ left) c (fault-append desk.session.stream.greeted held left c is))))
+pub turn-ended : {O : Type 0} (takes : O → Post → O → Type 0) (out mid out' : O) (setup : Setup) (guest : ℕ) (held : List ℕ) (part : PartView) (new : SessionView) (cause : Cause) (port port' : PortState) (state : DeskState) (f : Front)
+    → PartStands setup guest held part port state → part.session.ended ≡ None → front part.session.stream.greeted held ≡ f
+    → Turns takes out mid port port' part.session new (turns.Ended cause) f → takes mid (Ended guest cause) out'
+    → TookSome takes out out' setup guest held part (moved new (without_guest guest part.layers) part.messages part.glances) port' state
+turn-ended {O = O} takes out mid out' setup guest held part new cause port port' state stream.Wait stands going is t told = let e = t.answer in absurd (cc)
+turn-ended {O = O} takes out mid out' setup guest held part new cause port port' state (Fault c) stands going is t told =
+    let C : Cause → Type 0 = λ x. takes mid (Ended guest x) out' in
+    let M : O → Type 0 = λ m. takes m (Ended guest c) out' in
+    ended-took takes out out' setup guest held part new port port' state (Stop c) c stands going
+    (λ left. ([], ap (λ (x : Cut). x.units) (cut-faults part.session.stream.greeted (held ++ left) c (fault-append part.session.stream.greeted held left c is))))
     refl t.ended t.unread (subst M t.silent (subst C (told-cause cause c t.answer) told))
-turn-ended {O = O} takes out mid out' setup held desk new cause frames frames' state (Takes unit behind) stands going is t told = by_clip (is_clip unit) t
+turn-ended {O = O} takes out mid out' setup guest held part new cause port port' state (Takes unit behind) stands going is t told = by_clip (is_clip unit) t
   where
     s : SessionView
-    s = desk.session
+    s = part.session
 
-    by_verdict : (v : Verdict) → verdict desk.session.sizes desk.session.guest desk.session.minor desk.session.rows unit ≡ v
-        → Decides takes out mid (frames desk.session.guest) (frames' desk.session.guest) desk.session new (turns.Ended cause) (window_of unit) behind v
-        → TookSome takes out out' setup held desk (moved new (without_guest 0 desk.layers) desk.messages desk.glances desk) frames' state
+    by_verdict : (v : Verdict) → verdict part.session.sizes part.session.guest part.session.minor part.session.rows unit ≡ v
+        → Decides takes out mid port port' part.session new (turns.Ended cause) (window_of unit) behind v
+        → TookSome takes out out' setup guest held part (moved new (without_guest guest part.layers) part.messages part.glances) port' state
     by_verdict (Ends c) v_is d =
-        let C : Cause → Type 0 = λ x. takes mid (Ended 0 x) out' in
-        let M : O → Type 0 = λ m. takes m (Ended 0 c) out' in
-        ended-took takes out out' setup held desk new frames frames' state unit c stands going
+        let C : Cause → Type 0 = λ x. takes mid (Ended guest x) out' in
+        let M : O → Type 0 = λ m. takes m (Ended guest c) out' in
+        ended-took takes out out' setup guest held part new port port' state unit c stands going
         (λ left. (
           (cut true (behind ++ left)).units,
-          ap (λ (x : Cut). x.units) (cut-takes desk.session.stream.greeted (held ++ left) unit (behind ++ left) (front_by-append head_fault desk.session.stream.greeted held left unit behind is)),
+          ap (λ (x : Cut). x.units) (cut-takes part.session.stream.greeted (held ++ left) unit (behind ++ left) (front_by-append head_fault part.session.stream.greeted held left unit behind is)),
         ))
         v_is d.ended d.unread (subst M d.silent (subst C (told-cause cause c d.answer) told))
     by_verdict (Greets minor answers) v_is d = let e = d.answer in absurd (cc)
     by_verdict (Goes change answers) v_is d = let e = d.answer in absurd (cc)
     by_verdict (Reads row area) v_is d = let e = d.answer in absurd (cc)
 
-    by_clip : (b : Bool) → TakesUnit takes out mid (frames desk.session.guest) (frames' desk.session.guest) desk.session new (turns.Ended cause) unit behind b → TookSome takes out out' setup held desk (moved new (without_guest 0 desk.layers) desk.messages desk.glances desk) frames' state
+    by_clip : (b : Bool) → TakesUnit takes out mid port port' part.session new (turns.Ended cause) unit behind b → TookSome takes out out' setup guest held part (moved new (without_guest guest part.layers) part.messages part.glances) port' state
     by_clip true t = absurd (not-ended cause _ t.answer)
-    by_clip false t = by_verdict (verdict desk.session.sizes desk.session.guest desk.session.minor desk.session.rows unit) refl t
+    by_clip false t = by_verdict (verdict part.session.sizes part.session.guest part.session.minor part.session.rows unit) refl t

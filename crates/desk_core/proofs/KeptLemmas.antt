@@ -1,79 +1,88 @@
 -- What is true of each desk stays true.
-use Rattle.std.proofs.Common.{◌≡◌, ℕ, Bool, List, [], ◌++◌, None, refl, sym, ◌∙◌, ap, arith}
+use Rattle.std.proofs.Common.{◌≡◌, ℕ, ◌<◌, ◌≤◌, List, [], ◌++◌, length, take, refl, sym, ◌∙◌, subst, arith}
 use Rattle.desk_laws.specs.declared.cause.Cause.{Cause}
 use Rattle.desk_laws.specs.Following.{without_guest}
 use Rattle.desk_laws.specs.Frames.{PortState}
-use Rattle.desk_laws.specs.Scene.{Closing}
-use Rattle.desk_laws.specs.State.{count_item, session_of, with_session}
+use Rattle.desk_laws.specs.Scene.{Post, Closing}
+use Rattle.desk_laws.specs.State.{DeskState, count_item, session_of, with_session}
 use Rattle.desk_laws.specs.Steps.{ends}
-use Rattle.in_stream.specs.Received.{StandsFor}
 use Rattle.guest_session.specs.SessionView.{SessionView, IsEnded}
-use Rattle.desk_core.specs.DeskView.{DeskView}
-use Rattle.desk_core.specs.DeskStands.{item_counted}
+use Rattle.desk_core.specs.DeskView.{DeskView, PartView, ChangesPart, guests_of, part_of, session_in, with_part}
+use Rattle.desk_core.specs.DeskStands.{PartStands, item_counted}
 use Rattle.desk_core.specs.Kept.{IsKept}
-use Rattle.desk_laws.specs.Scene.{Post}
-use Rattle.desk_core.specs.PieceSteps.{TookSome}
-use Rattle.desk_core.proofs.StandLemmas.{moved, counts-with, with-frames, pushed-with}
+use Rattle.desk_core.specs.PieceSteps.{LeavesOthers, PushesPiece, TookSome}
 use Rattle.desk_core.proofs.EndStands.{ends-stands}
+use Rattle.desk_core.proofs.JoinLemmas.{put, put-same, put-other, part-in, part-alone, join, part-stands, focus-few}
+use Rattle.desk_core.proofs.LeaveLemmas.{leaves-all, leaves-both, ends-leaves}
+use Rattle.desk_core.proofs.StandLemmas.{moved, counts-with, put-leaves, pushed-with, with-frames}
 
--- another port: the desk stands for another state
-abbrev pub frames-kept : (greeted : Bool) (room : ℕ) (desk : DeskView) (frames : ℕ → PortState) → IsKept greeted room desk → IsKept greeted room desk
-frames-kept greeted room desk frames kept = record {
-  setup = kept.setup;
-  held = kept.held;
-  frames = frames;
-  state = with_session 0 (record (session_of 0 kept.state) { port = frames 0 }) kept.state;
-  stands = with-frames kept.setup kept.held desk kept.frames frames kept.state kept.stands;
-  greeted_is = kept.greeted_is;
-  roomy = kept.roomy;
-}
+-- the state that a desk stands for, with these frames of a guest
+abbrev pub state-at : (room guest : ℕ) (desk : DeskView) (port : PortState) → IsKept room desk → DeskState
+state-at room guest desk port kept = with_session guest (record (session_of guest kept.state) { port = port }) kept.state
 
-pub counts-kept : (greeted : Bool) (room : ℕ) (desk : DeskView) → IsKept greeted room desk → IsKept greeted room (item_counted desk)
-counts-kept greeted room desk kept = record {
+-- a guest's part stands for it
+pub kept-part : (room guest : ℕ) (desk : DeskView) (port : PortState) (kept : IsKept room desk) → guest < guests_of desk
+    → PartStands kept.setup guest (kept.held guest) (part_of guest desk) port (state-at room guest desk port kept)
+kept-part room guest desk port kept there =
+    with-frames kept.setup guest (kept.held guest) (part_of guest desk) (kept.frames guest) port kept.state (part-stands kept.setup kept.held desk kept.frames kept.state kept.stands guest there)
+
+-- a new part of a guest that stands for a state, where nothing of others changed
+pub part-kept : (room guest : ℕ) (old : DeskView) (new : PartView) (behind : List ℕ) (port : PortState) (after : DeskState) → (kept : IsKept room old) → guest < guests_of old
+    → PartStands kept.setup guest behind new port after → LeavesOthers guest kept.state after → IsKept room (with_part guest new old)
+part-kept room guest old new behind port after kept there stands leaves =
+    let desk = with_part guest new old in
+    let sizes : new.session.sizes ≡ (session_in guest old).sizes = stands.sizes ∙ sym (part-stands kept.setup kept.held old kept.frames kept.state kept.stands guest there).sizes in
+    let alone : ChangesPart guest old desk = part-alone guest new old there sizes in
+    let H : List ℕ → Type 0 = λ h. PartStands kept.setup guest h (part_of guest desk) (put guest port kept.frames guest) after in
+    let V : PartView → Type 0 = λ p. PartStands kept.setup guest behind p (put guest port kept.frames guest) after in
+    let F : PortState → Type 0 = λ p. PartStands kept.setup guest behind new p after in
+    record {
+      setup = kept.setup;
+      held = put guest behind kept.held;
+      frames = put guest port kept.frames;
+      state = after;
+      stands = join kept.setup guest kept.held (put guest behind kept.held) old desk kept.frames (put guest port kept.frames) kept.state after kept.stands
+          (subst H (sym (put-same guest behind kept.held)) (subst V (sym (part-in guest new old there)) (subst F (sym (put-same guest port kept.frames)) stands)))
+          leaves alone (λ other apart. put-other guest behind kept.held other apart) (λ other apart. put-other guest port kept.frames other apart);
+      roomy = omega (arith, kept.roomy, alone.guests);
+    }
+
+-- after some units
+pub took-kept : {O : Type 0} (takes : O → Post → O → Type 0) (out out' : O) (room guest : ℕ) (old : DeskView) (new : PartView) (port port' : PortState)
+    → (kept : IsKept room old) → guest < guests_of old → TookSome takes out out' kept.setup guest (kept.held guest) (part_of guest old) new port' (state-at room guest old port kept)
+    → IsKept room (with_part guest new old)
+took-kept takes out out' room guest old new port port' kept there took =
+    part-kept room guest old new took.behind port' took.outcome.desk kept there took.leads.0
+    (leaves-both guest kept.state (state-at room guest old port kept) took.outcome.desk (put-leaves guest (record (session_of guest kept.state) { port = port }) kept.state) took.leaves)
+
+pub counts-kept : (room : ℕ) (desk : DeskView) → IsKept room desk → IsKept room (item_counted desk)
+counts-kept room desk kept = record {
   setup = kept.setup;
   held = kept.held;
   frames = kept.frames;
   state = count_item kept.state;
   stands = counts-with kept.setup kept.held desk kept.frames kept.state kept.stands;
-  greeted_is = kept.greeted_is;
   roomy = kept.roomy;
 }
 
-pub pushed-kept : (greeted : Bool) (room : ℕ) (desk : DeskView) (session : SessionView) (taken : List ℕ) → IsKept greeted room desk
-    → session ≡ record desk.session { stream = session.stream } → session.stream.greeted ≡ desk.session.stream.greeted
-    → (desk.session.ended ≡ None → (rest : List ℕ) → StandsFor desk.session.stream rest → StandsFor session.stream (rest ++ taken))
-    → IsKept greeted room (record desk { session = session })
-pushed-kept greeted room desk session taken kept same alike holds = record {
-  setup = kept.setup;
-  held = kept.held ++ taken;
-  frames = kept.frames;
-  state = kept.state;
-  stands = pushed-with kept.setup kept.held (kept.held ++ taken) desk session kept.frames kept.state kept.stands same alike (λ going. holds going kept.held (kept.stands.opened going).stream);
-  greeted_is = λ still. kept.greeted_is (sym (ap (λ (s : SessionView). s.ended) same) ∙ still) ∙ sym alike;
-  roomy = kept.roomy;
-}
+pub pushed-kept : (room guest : ℕ) (desk : DeskView) (session : SessionView) (piece : List ℕ) (size : ℕ) → IsKept room desk → guest < guests_of desk → PushesPiece (session_in guest desk) session piece size
+    → IsKept room (with_part guest (record (part_of guest desk) { session = session }) desk)
+pushed-kept room guest desk session piece size kept there pushed =
+    let part = part-stands kept.setup kept.held desk kept.frames kept.state kept.stands guest there in
+    let more = kept.held guest ++ take size piece in
+    part-kept room guest desk (record (part_of guest desk) { session = session }) more (kept.frames guest) kept.state kept there
+    (pushed-with kept.setup guest (kept.held guest) more (part_of guest desk) session (kept.frames guest) kept.state part pushed.stream pushed.greeted
+    (λ going. pushed.stands going (kept.held guest) (part.opened going).stream))
+    (leaves-all guest kept.state)
 
-pub ends-kept : (greeted : Bool) (room : ℕ) (desk : DeskView) (new : SessionView) (cause : Cause) → IsKept greeted room desk → IsEnded desk.session cause new
-    → IsKept greeted room (moved new (without_guest 0 desk.layers) desk.messages desk.glances desk)
-ends-kept greeted room desk new cause kept over = record {
-  setup = kept.setup;
-  held = [];
-  frames = kept.frames;
-  state = (ends kept.setup 0 Closing cause kept.state).desk;
-  stands = ends-stands kept.setup kept.held [] desk new kept.frames kept.frames kept.state Closing cause kept.stands over refl;
-  greeted_is = λ still. let e = over.ended in cc;
-  roomy = kept.roomy;
-}
+pub ends-kept : (room guest : ℕ) (desk : DeskView) (new : SessionView) (cause : Cause) → IsKept room desk → guest < guests_of desk → IsEnded (session_in guest desk) cause new
+    → IsKept room (with_part guest (moved new (without_guest guest desk.layers) desk.messages desk.glances) desk)
+ends-kept room guest desk new cause kept there over =
+    let part = part-stands kept.setup kept.held desk kept.frames kept.state kept.stands guest there in
+    part-kept room guest desk (moved new (without_guest guest desk.layers) desk.messages desk.glances) [] (kept.frames guest) (ends kept.setup guest Closing cause kept.state).desk kept there
+    (ends-stands kept.setup guest (kept.held guest) [] (part_of guest desk) new (kept.frames guest) (kept.frames guest) kept.state Closing cause part over refl)
+    (ends-leaves kept.setup guest Closing cause kept.state)
 
-pub took-kept : {O : Type 0} (takes : O → Post → O → Type 0) (out out' : O) (greeted greeted' : Bool) (room room' : ℕ) (old new : DeskView) (frames' : ℕ → PortState)
-    → (kept : IsKept greeted room old) → TookSome takes out out' kept.setup kept.held old new frames' kept.state
-    → (new.session.ended ≡ None → greeted' ≡ new.session.stream.greeted) → room' ≡ room → IsKept greeted' room' new
-took-kept takes out out' greeted greeted' room room' old new frames' kept took same roomy = record {
-  setup = kept.setup;
-  held = took.behind;
-  frames = frames';
-  state = took.outcome.desk;
-  stands = took.leads.0;
-  greeted_is = same;
-  roomy = omega (arith, kept.roomy, roomy);
-}
+-- there is room for the lists of a desk
+pub room-for : (room : ℕ) (desk : DeskView) → IsKept room desk → length desk.layers.focus ≤ room
+room-for room desk kept = omega (arith, focus-few kept.setup kept.held desk kept.frames kept.state kept.stands, kept.roomy)

@@ -1,8 +1,8 @@
-pub mod PictureLemmas
 pub mod PostLemmas
-pub mod RowLemmas
-pub mod DrawLemmas
+pub mod OwnRows
+pub mod LeaveLemmas
 pub mod StandLemmas
+pub mod JoinLemmas
 pub mod EndStands
 pub mod OpeningStands
 pub mod KeptLemmas
@@ -15,4 +15,10 @@ pub mod WaitTurns
 pub mod ShorterTurns
 pub mod TurnExits
 pub mod PieceLemmas
+pub mod StoreLemmas
 pub mod StepLemmas
+pub mod PaneLemmas
+pub mod PaintLemmas
+pub mod LayerLemmas
+pub mod DeskTurns
+pub mod DeskEnds

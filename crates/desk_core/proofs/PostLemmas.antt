@@ -14,10 +14,10 @@ leads-append takes (p ∷ ps) qs a b c one two = (one.0, one.1, leads-append tak
 pub guest-append : (ps qs : List Post) → guest_posts (ps ++ qs) ≡ guest_posts ps ++ guest_posts qs
 guest-append ps qs = filter-append is_for_guest ps qs
 
-pub guest-replies : (answers : List (List ℕ)) → guest_posts (replies 0 answers) ≡ replies 0 answers
-guest-replies [] = refl
-guest-replies (a ∷ answers) = ap (λ ps. Reply 0 a ∷ ps) (guest-replies answers)
+pub guest-replies : (guest : ℕ) (answers : List (List ℕ)) → guest_posts (replies guest answers) ≡ replies guest answers
+guest-replies guest [] = refl
+guest-replies guest (a ∷ answers) = ap (λ ps. Reply guest a ∷ ps) (guest-replies guest answers)
 
 -- what a unit tells that is answered
-pub guest-answers : (answers : List (List ℕ)) → guest_posts (replies 0 answers ++ []) ≡ replies 0 answers
-guest-answers answers = ap guest_posts (append-nil (replies 0 answers)) ∙ guest-replies answers
+pub guest-answers : (guest : ℕ) (answers : List (List ℕ)) → guest_posts (replies guest answers ++ []) ≡ replies guest answers
+guest-answers guest answers = ap guest_posts (append-nil (replies guest answers)) ∙ guest-replies guest answers

@@ -1,5 +1,5 @@
 -- Which state of the definitions a desk stands for.
-use Rattle.std.specs.Prelude.{◌≡◌, ℕ, ◌+◌, ◌-◌, ◌^◌, ◌<◌, ◌≤◌, List, [], length, Option, Some, None}
+use Rattle.std.specs.Prelude.{◌≡◌, ℕ, ◌+◌, ◌-◌, ◌^◌, ◌<◌, ◌≤◌, true, false, List, [], length, map, Option, Some, None, slice_get}
 use Rattle.gui_num.specs.declared.Rect.{Rect}
 use Rattle.gui_num.specs.Rects.{area}
 use Rattle.desk_laws.specs.declared.setup.Setup.{Setup}
@@ -7,38 +7,35 @@ use Rattle.desk_laws.specs.declared.item.Item.{Item}
 use Rattle.desk_laws.specs.declared.item.Item.TheVariants as items
 use Rattle.desk_laws.specs.Sizes.{sizes_of}
 use Rattle.desk_laws.specs.Stream.{front, Wait}
+use Rattle.desk_laws.specs.Rows.{id_of, mine}
+use Rattle.desk_laws.specs.Layers.{are_apart}
 use Rattle.desk_laws.specs.Picture.{label_of}
 use Rattle.desk_laws.specs.Frames.{PortState, counted}
 use Rattle.desk_laws.specs.Following.{LayersFollow}
+use Rattle.desk_laws.specs.Sound.{IsSound}
 use Rattle.desk_laws.specs.Scene.{Post}
 use Rattle.desk_laws.specs.State.{DeskState, Session, StepOutcome, session_of}
 use Rattle.io_ports.specs.Posts.{Leads}
 use Rattle.in_stream.specs.Received.{StandsFor}
-use Rattle.guest_session.specs.SessionView.{SessionView, AreRows}
+use Rattle.guest_session.specs.SessionView.{SessionView, AreRows, opened}
 use Rattle.desk_core.specs.declared.desk.Stepped.{Stepped}
 use Rattle.desk_core.specs.declared.desk.Stepped.TheVariants.{Going, Snap, Ended}
 use Rattle.desk_core.specs.declared.desk.Summary.{Summary}
-use Rattle.desk_core.specs.PictureView.{PictureView}
-use Rattle.desk_core.specs.DeskView.{DeskView}
+use Rattle.desk_core.specs.DeskView.{DeskView, PartView, guests_of, session_in, part_of}
 use Rattle.desk_core.specs.DeskPosts.{guest_posts}
 
--- the picture of a desk
-abbrev pub picture_of : DeskView → PictureView
-picture_of desk = desk.picture
-
--- how many pages a guest's frames have
-abbrev pub pages_of : DeskView → ℕ
-pages_of desk = desk.session.sizes.pages
-
--- the desk's numbers are those of the setup
+-- the desk's numbers and colours are those of the setup
 pub record HasNumbers (setup : Setup) (desk : DeskView) : Type 0 where
-  pub sizes : desk.session.sizes ≡ sizes_of setup
   pub width : desk.picture.width ≡ setup.width
   pub height : desk.picture.height ≡ setup.height
+  pub background : desk.picture.background ≡ setup.background.0
   pub border : desk.border ≡ setup.border
-  pub background : desk.background ≡ setup.background.0
-  pub label : desk.label ≡ label_of setup 0
+  pub labels : (guest : ℕ) → guest < length setup.guests → slice_get desk.labels guest ≡ Some (record { 0 = label_of setup guest })
+  pub wide : 1 ≤ setup.border
   pub narrow : setup.border ≤ 16
+  pub guests : guests_of desk ≡ length setup.guests
+  pub some : 1 ≤ length setup.guests
+  pub few : length setup.guests ≤ 16
 
 -- a session that is open, in the definitions and on the desk, where these bytes are held
 pub record IsOpen (held : List ℕ) (view : SessionView) (session : Session) : Type 0 where
@@ -46,34 +43,58 @@ pub record IsOpen (held : List ℕ) (view : SessionView) (session : Session) : T
   pub minor : session.minor ≡ view.minor
   pub stream : StandsFor view.stream held
 
--- the frames of each guest are those of its session
-abbrev pub HaveFrames : (ℕ → PortState) → DeskState → Type 0
-HaveFrames frames state = (guest : ℕ) → guest < length state.sessions → (session_of guest state).port ≡ frames guest
+-- one guest's part of a desk stands for a state of the definitions, with a port on which the guest's frames are
+-- these, and holds these bytes of the guest while its session is open. Nothing is said of what has no effect
+-- yet: the seat and the clipboard
+pub record PartStands (setup : Setup) (guest : ℕ) (held : List ℕ) (part : PartView) (port : PortState) (state : DeskState) : Type 0 where
+  pub there : guest < length state.sessions
+  pub sizes : part.session.sizes ≡ sizes_of setup
+  pub owner : part.session.guest ≡ guest
+  pub own : AreRows guest part.session.rows
+  pub rows : mine guest state.scene.rows ≡ part.session.rows
+  pub apart : are_apart (map id_of state.scene.rows) ≡ true
+  pub layers : state.scene.layers ≡ part.layers
+  pub followed : LayersFollow state.scene.rows part.layers
+  pub ended : (session_of guest state).ended ≡ part.session.ended
+  pub opened : part.session.ended ≡ None → IsOpen held part.session (session_of guest state)
+  pub frames : (session_of guest state).port ≡ port
+  pub messages : state.counts.messages ≡ part.messages
+  pub glances : state.counts.glances ≡ part.glances
+  pub messages_in_range : part.messages ≤ 2 ^ 64 - 1
+  pub glances_in_range : part.glances ≤ 2 ^ 64 - 1
 
--- the desk stands for a state of the definitions, with a port on which the frames of each guest are
--- these, and holds these bytes of its guest while the session is open. Nothing is said of what has no
--- effect yet: the seat and the clipboard
-pub record StandsWith (setup : Setup) (held : List ℕ) (desk : DeskView) (frames : ℕ → PortState) (state : DeskState) : Type 0 where
+-- the desk stands for a state of the definitions, with a port on which the frames of each guest are these, and
+-- holds these bytes of each guest while its session is open; no window is of a guest that isn't there, and the
+-- override windows keep their limits
+pub record StandsWith (setup : Setup) (held : ℕ → List ℕ) (desk : DeskView) (frames : ℕ → PortState) (state : DeskState) : Type 0 where
   pub numbers : HasNumbers setup desk
-  pub guest : desk.session.guest ≡ 0
-  pub own : AreRows 0 desk.session.rows
-  pub rows : state.scene.rows ≡ desk.session.rows
-  pub layers : state.scene.layers ≡ desk.layers
-  pub followed : LayersFollow desk.session.rows desk.layers
-  pub one : length state.sessions ≡ 1
-  pub ended : (session_of 0 state).ended ≡ desk.session.ended
-  pub opened : desk.session.ended ≡ None → IsOpen held desk.session (session_of 0 state)
-  pub ports : HaveFrames frames state
+  pub count : length state.sessions ≡ length setup.guests
+  pub parts : (guest : ℕ) → guest < length setup.guests → PartStands setup guest (held guest) (part_of guest desk) (frames guest) state
+  pub known : (guest : ℕ) → length setup.guests ≤ guest → mine guest state.scene.rows ≡ []
   pub items : state.counts.items ≡ desk.items
-  pub messages : state.counts.messages ≡ desk.messages
-  pub glances : state.counts.glances ≡ desk.glances
-  pub messages_in_range : desk.messages ≤ 2 ^ 64 - 1
-  pub glances_in_range : desk.glances ≤ 2 ^ 64 - 1
 
--- the same between two items: the bytes that are held are the session's rest, in which no whole unit is
+-- the rests of the sessions of a state
+abbrev pub rests_of : DeskState → ℕ → List ℕ
+rests_of state guest = (session_of guest state).rest
+
+-- the same where every guest is at rest: the bytes that are held are the sessions' rests, in which no whole unit is
+pub record IsAtRest (setup : Setup) (desk : DeskView) (frames : ℕ → PortState) (state : DeskState) : Type 0 where
+  pub with_rest : StandsWith setup (rests_of state) desk frames state
+  pub waits : (guest : ℕ) → guest < length setup.guests → (session_in guest desk).ended ≡ None
+      → front (session_in guest desk).stream.greeted (session_of guest state).rest ≡ Wait
+
+-- the same between two items: the state is sound, too
 pub record Stands (setup : Setup) (desk : DeskView) (frames : ℕ → PortState) (state : DeskState) : Type 0 where
-  pub with_rest : StandsWith setup (session_of 0 state).rest desk frames state
-  pub waits : desk.session.ended ≡ None → front desk.session.stream.greeted (session_of 0 state).rest ≡ Wait
+  pub with_rest : StandsWith setup (rests_of state) desk frames state
+  pub waits : (guest : ℕ) → guest < length setup.guests → (session_in guest desk).ended ≡ None
+      → front (session_in guest desk).stream.greeted (session_of guest state).rest ≡ Wait
+  pub sound : IsSound setup state
+
+-- a session before any of its bytes
+pub record IsFresh (setup : Setup) (guest : ℕ) (session : SessionView) : Type 0 where
+  pub new : session ≡ opened guest (sizes_of setup) session.stream
+  pub greeted : session.stream.greeted ≡ false
+  pub stands : StandsFor session.stream []
 
 -- ---- what a step does to the desk
 
@@ -81,17 +102,17 @@ pub record Stands (setup : Setup) (desk : DeskView) (frames : ℕ → PortState)
 abbrev pub item_counted : DeskView → DeskView
 item_counted desk = record desk { items = counted (desk.items + 1) }
 
--- a desk and frames that stand for the state after some steps, and an outlet that took what they told the guest
-abbrev pub LeadsTo : {O : Type 0} → (O → Post → O → Type 0) → O → O → Setup → List ℕ → DeskView → (ℕ → PortState) → StepOutcome → Type 0
-LeadsTo takes out out' setup held desk frames outcome = StandsWith setup held desk frames outcome.desk × Leads takes out (guest_posts outcome.posts) out'
+-- a part and frames that stand for the state after some steps, and an outlet that took what they told the guests
+abbrev pub LeadsTo : {O : Type 0} → (O → Post → O → Type 0) → O → O → Setup → ℕ → List ℕ → PartView → PortState → StepOutcome → Type 0
+LeadsTo takes out out' setup guest held part port outcome = PartStands setup guest held part port outcome.desk × Leads takes out (guest_posts outcome.posts) out'
 
--- the same between two items
+-- a desk and frames that stand for the state after some steps, where every guest is at rest, and such an outlet
 abbrev pub StepsTo : {O : Type 0} → (O → Post → O → Type 0) → O → O → Setup → DeskView → (ℕ → PortState) → StepOutcome → Type 0
-StepsTo takes out out' setup desk frames outcome = Stands setup desk frames outcome.desk × Leads takes out (guest_posts outcome.posts) out'
+StepsTo takes out out' setup desk frames outcome = IsAtRest setup desk frames outcome.desk × Leads takes out (guest_posts outcome.posts) out'
 
--- a change of frames leaves a desk that stands, and tells nobody anything
+-- a change of frames leaves a desk that stands, with every guest at rest, and tells nobody anything
 abbrev pub StoresTo : Setup → DeskView → (ℕ → PortState) → StepOutcome → Type 0
-StoresTo setup desk frames outcome = Stands setup desk frames outcome.desk × (outcome.posts ≡ [])
+StoresTo setup desk frames outcome = IsAtRest setup desk frames outcome.desk × (outcome.posts ≡ [])
 
 -- how many words were read of an area, one for each pixel
 abbrev pub glances_in : Option Rect → ℕ

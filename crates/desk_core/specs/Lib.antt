@@ -1,10 +1,10 @@
-pub mod PictureView
+pub mod Panes
+pub mod ShownView
 pub mod Painting
-pub mod Drawing
-pub mod Parts
 pub mod DeskPosts
 pub mod DeskView
 pub mod DeskStands
 pub mod PieceSteps
 pub mod Stacked
 pub mod Kept
+pub mod ItemSteps

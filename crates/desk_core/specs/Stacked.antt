@@ -4,9 +4,9 @@ use Rattle.desk_laws.specs.declared.row_id.RowId.{RowId}
 use Rattle.desk_laws.specs.Rows.{Row}
 use Rattle.desk_laws.specs.Layers.{Layers, is_in, entered, departed, relayered}
 
--- the id of a window of guest 0
-abbrev pub id_in : ℕ → RowId
-id_in window = record { guest = 0; window = window }
+-- the id of a guest's window
+abbrev pub id_in : ℕ → ℕ → RowId
+id_in guest window = record { guest = guest; window = window }
 
 -- whether a mapped row is in the override layer
 abbrev pub layer_in : Option Row → Option Bool

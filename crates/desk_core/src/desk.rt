@@ -1,24 +1,30 @@
-// The desktop: one guest's session with the stack of its windows, and the picture of them.
-ghost use Rattle.std.specs.Prelude.{◌≡◌, ℕ, ◌<◌, ◌≤◌, ◌+◌, ◌*◌, List, length, IfOk, IsTrue, false, true, if◌then◌else◌};
+// The desktop: the sessions of its guests, the stack of their windows, and the picture of them.
+ghost use Rattle.std.specs.Prelude.{◌≡◌, ℕ, ◌<◌, ◌≤◌, ◌+◌, ◌*◌, List, length, map, slice_index_or, IfOk, IsTrue, false, true, if◌then◌else◌};
 ghost use Rattle.desk_laws.specs.declared.setup.Setup.{Setup};
 ghost use Rattle.desk_laws.specs.Rules.{first_broken};
+ghost use Rattle.desk_laws.specs.Sizes.{sizes_of};
 ghost use Rattle.desk_laws.specs.Items.{FitsItem, IsChange};
 ghost use Rattle.desk_laws.specs.Frames.{PortState, counted};
 ghost use Rattle.desk_laws.specs.Picture.{picture};
+ghost use Rattle.desk_laws.specs.Edges.{EdgesStayApart};
+ghost use Rattle.desk_laws.specs.Endings.{is_item_of};
+ghost use Rattle.desk_laws.specs.Override.{KeepsLimits};
 ghost use Rattle.desk_laws.specs.Scene.{Input};
 ghost use Rattle.desk_laws.specs.State.{DeskState, opening};
 ghost use Rattle.desk_laws.specs.Steps.{step, take_bytes, take_store, end_session};
 ghost use Rattle.io_ports.specs.Posts.{Leads};
 ghost use Rattle.desk_core.specs.DeskPosts.{guest_posts};
 ghost use Rattle.frame_pool.specs.Ports.{AreZeros};
-ghost use Rattle.desk_core.specs.DeskStands.{Stands, StandsWith, StepsTo, StoresTo, picture_of, pages_of, glances_in, item_counted, stepped_of, summary_of};
+ghost use Rattle.desk_core.specs.DeskView.{ChangesPart, guests_of, pages_of, part_of, no_session, picture_of, session_in};
+ghost use Rattle.desk_core.specs.DeskStands.{IsAtRest, IsFresh, PartStands, Stands, StepsTo, StoresTo, glances_in, item_counted, stepped_of, summary_of};
+ghost use Rattle.desk_core.specs.ItemSteps.{TakesItem};
 ghost use Rattle.desk_core.specs.PieceSteps.{TookSome, Settled, PushesPiece, held_by};
 ghost use Rattle.desk_core.specs.Painting.{painted_after};
 
-use crate::draw::draw_stack;
-use crate::picture::Picture;
+use crate::panes::{Shown, StackPanes, show_stack};
 use crate::stack::{follow, layer_of};
-use desk_laws::{Cause, Item, Setup};
+use compositor::Picture;
+use desk_laws::{Cause, GuestSetup, Item, RowId, Setup};
 use frame_pool::FramePort;
 use guest_session::{Session, Turn};
 use gui_num::{Colour, NoMemory, Rect, area};
@@ -51,32 +57,33 @@ pub struct Summary {
     pub painted: u64,
 }
 
-/// A desktop with one guest. It takes the items of its input one after the other, answers the guest,
-/// reads the guest's frames where it says that they changed, and keeps a picture of what it shows.
+/// A desktop with 1 to 16 guests. It takes the items of its input one after the other, answers each
+/// guest alone, reads a guest's frames where it says that they changed, and keeps a picture of what
+/// all of them show.
 #[derive(Drop)]
 pub struct Desk {
     border: u32,
-    background: Colour,
-    label: Colour,
-    session: Session,
+    labels: Vec<Colour>,
+    sessions: Vec<Session>,
     stack: Stacking,
-    // Whether the guest was greeted: behind the version word, which is no message, there are messages.
-    greeted: bool,
     items: u64,
     messages: u64,
     glances: u64,
+    // What was shown when the picture was drawn last: the room is taken once, and filled at each Snap.
+    shown: Vec<Shown>,
     picture: Picture,
 }
 
 impl Model for Desk {
+    ghost use Rattle.std.specs.Prelude.{vec_capacity, ◌≤◌};
     ghost use Rattle.desk_core.specs.DeskView.{DeskView};
     ghost use Rattle.desk_core.specs.Kept.{IsKept};
 
     ghost Value = { DeskView };
 
-    ghost view = { λ d. record { border = d.border; background = d.background.0; label = d.label.0; session = d.session; layers = d.stack.layers; items = d.items; messages = d.messages; glances = d.glances; picture = d.picture } };
+    ghost view = { λ d. record { border = d.border; labels = d.labels.items; sessions = d.sessions.items; layers = d.stack.layers; items = d.items; messages = d.messages; glances = d.glances; picture = d.picture } };
 
-    ghost invariant = { λ d. IsKept d.greeted d.stack.rows (record { border = d.border; background = d.background.0; label = d.label.0; session = d.session; layers = d.stack.layers; items = d.items; messages = d.messages; glances = d.glances; picture = d.picture }) };
+    ghost invariant = { λ d. IsKept d.stack.rows (record { border = d.border; labels = d.labels.items; sessions = d.sessions.items; layers = d.stack.layers; items = d.items; messages = d.messages; glances = d.glances; picture = d.picture }) × (d.stack.rows ≤ vec_capacity d.shown) };
 }
 
 // A count, and one more where something counts.
@@ -96,124 +103,160 @@ fn count_read(count: u64, drawn: Option<Rect>) -> u64
     }
 }
 
+// The label colour of each guest. `NoMemory` where there is none for them.
+fn labels_of(alloc: Global, guests: &[GuestSetup]) -> Result<Vec<Colour>, NoMemory>
+    ensures { IfOk result (λ labels. labels.items ≡ map (λ g. g.colour) guests.now) }
+{
+    let mut labels = Vec::with_capacity(alloc, guests.len())?;
+    for guest in guests {
+        labels.push_reserved(guest.colour);
+    }
+    Ok(labels)
+}
+
+// A session for each guest of a setup, in their order. `NoMemory` where there is none for them.
+fn open_sessions(alloc: Global, setup: &Setup) -> Result<Vec<Session>, NoMemory>
+    requires { first_broken setup.now ≡ None }
+    ensures count { IfOk result (λ sessions. length sessions.items ≡ length setup.now.guests) }
+    ensures fresh { IfOk result (λ sessions. (guest : ℕ) → guest < length setup.now.guests → IsFresh setup.now guest (slice_index_or sessions.items guest no_session)) }
+{
+    let count = setup.guests.items().len();
+    let mut sessions = Vec::with_capacity(alloc, count)?;
+    for guest in 0..count {
+        sessions.push_reserved(Session::open(alloc, guest as u32, setup)?);
+    }
+    Ok(sessions)
+}
+
 impl Desk {
     /// The desktop of a setup that keeps its rules, before any item. `NoMemory` where there is none
-    /// for the session, the stack and the picture; later nothing takes memory.
+    /// for the sessions, the stack and the picture; later nothing takes memory.
     pub fn open(alloc: Global, setup: &Setup) -> Result<Desk, NoMemory>
         requires { first_broken setup.now ≡ None }
         ensures stands { IfOk result (λ d. (frames : ℕ → PortState) → AreZeros (length setup.now.guests) setup.now.pages frames → Stands setup.now d frames (opening setup.now)) }
+        ensures guests { IfOk result (λ d. guests_of d ≡ length setup.now.guests) }
         ensures pages { IfOk result (λ d. pages_of d ≡ setup.now.pages) }
         ensures fresh { IfOk result (λ d. (picture_of d).painted ≡ 0) }
     {
         let guests = setup.guests.items();
-        let label = guests[0].colour;
+        let windows = MAX_WINDOWS * guests.len() as u32;
         Ok(Desk {
             border: setup.border,
-            background: setup.background,
-            label,
-            session: Session::open(alloc, 0, setup)?,
-            stack: Stacking::new(alloc, MAX_WINDOWS)?,
-            greeted: false,
+            labels: labels_of(alloc, guests)?,
+            sessions: open_sessions(alloc, setup)?,
+            stack: Stacking::new(alloc, windows)?,
             items: 0,
             messages: 0,
             glances: 0,
+            shown: Vec::with_capacity(alloc, windows as usize)?,
             picture: Picture::new(alloc, setup.width, setup.height, setup.background)?,
         })
     }
 
-    // Lets the session take one unit off the bytes that it holds, and the stack follow it. Answers
+    // Lets a guest's session take one unit off the bytes that it holds, and the stack follow it. Answers
     // whether there was one, and the session hasn't ended.
-    fn take_turn<P: FramePort, O: Outlet>(&mut self, port: &mut P, out: &mut O) -> bool
-        requires guests { P.guests port.old ≡ 1 }
+    fn take_turn<P: FramePort, O: Outlet>(&mut self, guest: u32, port: &mut P, out: &mut O) -> bool
+        requires there { guest < guests_of self.old }
+        requires guests { P.guests port.old ≡ guests_of self.old }
         requires pages { P.pages port.old ≡ pages_of self.old }
-        ensures took { (setup : Setup) (held : List ℕ) (state : DeskState) → StandsWith setup held self.old (P.state port.old) state → TookSome O.takes out.old out.new setup held self.old self.new (P.state port.new) state }
-        ensures fewer { IsTrue result → held_by self.new < held_by self.old }
-        ensures settled { result ≡ false → Settled self.new }
-        ensures kept { self.new.picture ≡ self.old.picture }
-        ensures same_pages { pages_of self.new ≡ pages_of self.old }
+        ensures took { (setup : Setup) (held : List ℕ) (state : DeskState) → PartStands setup guest held (part_of guest self.old) (P.state port.old guest) state → TookSome O.takes out.old out.new setup guest held (part_of guest self.old) (part_of guest self.new) (P.state port.new guest) state }
+        ensures fewer { IsTrue result → held_by (session_in guest self.new) < held_by (session_in guest self.old) }
+        ensures settled { result ≡ false → Settled (session_in guest self.new) }
+        ensures alone { ChangesPart guest self.old self.new }
+        ensures others { (other : ℕ) → (other ≡ guest → ⊥) → P.state port.new other ≡ P.state port.old other }
         ensures port_guests { P.guests port.new ≡ P.guests port.old }
         ensures port_pages { P.pages port.new ≡ P.pages port.old }
     {
-        match self.session.turn(port, out) {
+        let session = &mut self.sessions[guest as usize];
+        let greeted = session.greeted();
+        match session.turn(port, out) {
             Turn::Wait => false,
             Turn::Changed { window, drawn } => {
-                let layer = layer_of(&self.session, window);
-                follow(&mut self.stack, window, layer);
-                self.messages = count_if(self.messages, self.greeted);
+                let layer = layer_of(session, window);
+                follow(&mut self.stack, RowId { guest, window }, layer);
+                self.messages = count_if(self.messages, greeted);
                 self.glances = count_read(self.glances, drawn);
-                self.greeted = true;
                 true
             }
             Turn::ClipWhole | Turn::ClipOver => {
-                self.session.clip_done();
+                session.clip_done();
                 self.messages = count_if(self.messages, true);
                 true
             }
             Turn::Ended(cause) => {
-                self.stack.leave_guest(0);
-                out.ended(0, cause);
+                self.stack.leave_guest(guest);
+                out.ended(guest, cause);
                 false
             }
         }
     }
 
-    // Takes all whole units off the bytes that are held, until one ends the session.
-    fn take_units<P: FramePort, O: Outlet>(&mut self, port: &mut P, out: &mut O)
-        requires guests { P.guests port.old ≡ 1 }
+    // Takes all whole units off the bytes that are held of a guest, until one ends its session.
+    fn take_units<P: FramePort, O: Outlet>(&mut self, guest: u32, port: &mut P, out: &mut O)
+        requires there { guest < guests_of self.old }
+        requires guests { P.guests port.old ≡ guests_of self.old }
         requires pages { P.pages port.old ≡ pages_of self.old }
-        ensures took { (setup : Setup) (held : List ℕ) (state : DeskState) → StandsWith setup held self.old (P.state port.old) state → TookSome O.takes out.old out.new setup held self.old self.new (P.state port.new) state }
-        ensures settled { Settled self.new }
-        ensures kept { self.new.picture ≡ self.old.picture }
-        ensures same_pages { pages_of self.new ≡ pages_of self.old }
+        ensures took { (setup : Setup) (held : List ℕ) (state : DeskState) → PartStands setup guest held (part_of guest self.old) (P.state port.old guest) state → TookSome O.takes out.old out.new setup guest held (part_of guest self.old) (part_of guest self.new) (P.state port.new guest) state }
+        ensures settled { Settled (session_in guest self.new) }
+        ensures alone { ChangesPart guest self.old self.new }
+        ensures others { (other : ℕ) → (other ≡ guest → ⊥) → P.state port.new other ≡ P.state port.old other }
         ensures port_guests { P.guests port.new ≡ P.guests port.old }
         ensures port_pages { P.pages port.new ≡ P.pages port.old }
     {
-        while self.take_turn(port, out) {}
+        while self.take_turn(guest, port, out) {}
     }
 
-    // Takes up as much of a piece as there is room for, and answers how much.
-    fn push(&mut self, piece: &[u8]) -> usize
+    // Takes up as much of a piece of a guest's bytes as there is room for, and answers how much.
+    fn push(&mut self, guest: u32, piece: &[u8]) -> usize
+        requires there { guest < guests_of self.old }
         ensures within { result ≤ length piece.now }
-        ensures some { Settled self.old → 0 < length piece.now → 0 < result }
-        ensures pushed { PushesPiece self.old self.new piece.now result }
-        ensures kept { self.new.picture ≡ self.old.picture }
-        ensures same_pages { pages_of self.new ≡ pages_of self.old }
+        ensures some { Settled (session_in guest self.old) → 0 < length piece.now → 0 < result }
+        ensures pushed { PushesPiece (session_in guest self.old) (session_in guest self.new) piece.now result }
+        ensures alone { ChangesPart guest self.old self.new }
+        ensures part { part_of guest self.new ≡ record (part_of guest self.old) { session = session_in guest self.new } }
     {
-        self.session.push(piece)
+        self.sessions[guest as usize].push(piece)
     }
 
-    // Takes a piece of the guest's bytes, however it is cut.
-    fn take_piece<P: FramePort, O: Outlet>(&mut self, piece: &[u8], port: &mut P, out: &mut O)
-        requires guests { P.guests port.old ≡ 1 }
+    // Takes a piece of a guest's bytes, however it is cut.
+    fn take_piece<P: FramePort, O: Outlet>(
+        &mut self,
+        guest: u32,
+        piece: &[u8],
+        port: &mut P,
+        out: &mut O,
+    )
+        requires there { guest < guests_of self.old }
+        requires guests { P.guests port.old ≡ guests_of self.old }
         requires pages { P.pages port.old ≡ pages_of self.old }
-        ensures took { (setup : Setup) (state : DeskState) → Stands setup self.old (P.state port.old) state → StepsTo O.takes out.old out.new setup self.new (P.state port.new) (take_bytes setup 0 piece.now state) }
-        ensures kept { self.new.picture ≡ self.old.picture }
-        ensures same_pages { pages_of self.new ≡ pages_of self.old }
+        ensures took { (setup : Setup) (state : DeskState) → IsAtRest setup self.old (P.state port.old) state → StepsTo O.takes out.old out.new setup self.new (P.state port.new) (take_bytes setup guest piece.now state) }
+        ensures alone { ChangesPart guest self.old self.new }
+        ensures others { (other : ℕ) → (other ≡ guest → ⊥) → P.state port.new other ≡ P.state port.old other }
         ensures port_guests { P.guests port.new ≡ P.guests port.old }
         ensures port_pages { P.pages port.new ≡ P.pages port.old }
     {
-        self.take_units(port, out);
+        self.take_units(guest, port, out);
         let mut left = piece;
         while !left.is_empty() {
-            let size = self.push(left);
+            let size = self.push(guest, left);
             left = &left[size..];
-            self.take_units(port, out);
+            self.take_units(guest, port, out);
         }
     }
 
-    // Ends the session from outside, unless it has ended: the guest is told why, and its windows are
-    // gone.
-    fn end<O: Outlet>(&mut self, cause: Cause, out: &mut O)
-        ensures took { (setup : Setup) (frames : ℕ → PortState) (input : Input) (state : DeskState) → Stands setup self.old frames state → StepsTo O.takes out.old out.new setup self.new frames (end_session setup 0 input cause state) }
-        ensures kept { self.new.picture ≡ self.old.picture }
-        ensures same_pages { pages_of self.new ≡ pages_of self.old }
+    // Ends a guest's session from outside, unless it has ended: the guest is told why, and its windows
+    // are gone.
+    fn end<O: Outlet>(&mut self, guest: u32, cause: Cause, out: &mut O)
+        requires there { guest < guests_of self.old }
+        ensures took { (setup : Setup) (frames : ℕ → PortState) (input : Input) (state : DeskState) → IsAtRest setup self.old frames state → StepsTo O.takes out.old out.new setup self.new frames (end_session setup guest input cause state) }
+        ensures alone { ChangesPart guest self.old self.new }
     {
-        if self.session.ended().is_some() {
+        if self.sessions[guest as usize].ended().is_some() {
             return;
         }
-        self.session.end(cause);
-        self.stack.leave_guest(0);
-        out.ended(0, cause);
+        self.sessions[guest as usize].end(cause);
+        self.stack.leave_guest(guest);
+        out.ended(guest, cause);
     }
 
     // Takes a change of a guest's frames, unless its session has ended.
@@ -226,15 +269,16 @@ impl Desk {
         piece: &[u8],
         port: &mut P,
     )
-        requires guests { P.guests port.old ≡ 1 }
+        requires guests { P.guests port.old ≡ guests_of self.now }
         requires pages { P.pages port.old ≡ pages_of self.now }
-        requires guest { guest < 1 }
+        requires guest { guest < guests_of self.now }
         requires change { IsChange page offset (length piece.now) (pages_of self.now) }
-        ensures took { (setup : Setup) (state : DeskState) → Stands setup self.now (P.state port.old) state → StoresTo setup self.now (P.state port.new) (take_store guest delay page offset piece.now state) }
+        ensures took { (setup : Setup) (state : DeskState) → IsAtRest setup self.now (P.state port.old) state → StoresTo setup self.now (P.state port.new) (take_store guest delay page offset piece.now state) }
+        ensures others { (other : ℕ) → (other ≡ guest → ⊥) → P.state port.new other ≡ P.state port.old other }
         ensures port_guests { P.guests port.new ≡ P.guests port.old }
         ensures port_pages { P.pages port.new ≡ P.pages port.old }
     {
-        if self.session.ended().is_none() {
+        if self.sessions[guest as usize].ended().is_none() {
             port.store(guest, delay, page, offset, piece);
         }
     }
@@ -246,61 +290,56 @@ impl Desk {
         self.items = self.items.saturating_add(1);
     }
 
-    // Draws the picture anew: the background, and the windows from the bottom of the stack to its top.
+    // Draws the picture anew, each pixel once.
     fn draw(&mut self)
         ensures desk { self.new ≡ record self.old { picture = self.new.picture } }
-        ensures sides { (self.new.picture.width ≡ self.old.picture.width) × (self.new.picture.height ≡ self.old.picture.height) }
+        ensures sides { (self.new.picture.width ≡ self.old.picture.width) × (self.new.picture.height ≡ self.old.picture.height) × (self.new.picture.background ≡ self.old.picture.background) }
         ensures painted { self.new.picture.painted ≡ counted (self.old.picture.painted + self.old.picture.width * self.old.picture.height) }
         ensures pixels { (setup : Setup) (frames : ℕ → PortState) (state : DeskState) → Stands setup self.old frames state → self.new.picture.pixels ≡ picture setup state.scene.rows state.scene.layers }
     {
-        self.picture.begin(self.background);
-        draw_stack(
-            &mut self.picture,
-            &self.session,
+        show_stack(
+            &mut self.shown,
+            &self.sessions,
             &self.stack,
+            &self.labels,
             self.border,
-            self.label,
         );
+        self.picture.paint(&StackPanes {
+            sessions: &self.sessions,
+            shown: &self.shown,
+        });
     }
 
-    /// Takes one item of the input with its piece: the bytes of a guest, cut in any way, or those of a
-    /// change of its frames, else none. It answers what it did: the picture is drawn anew exactly at
-    /// Snap, and the input ended exactly at End. The guest is told through the outlet what the item led
-    /// to. Of the port the guest's frames are read where the guest says that they changed, and changed
-    /// at Store, unless its session has ended.
-    pub fn step<P: FramePort, O: Outlet>(
+    // Takes one item with its piece, and answers what it did.
+    fn take_item<P: FramePort, O: Outlet>(
         &mut self,
         item: &Item,
         piece: &[u8],
         port: &mut P,
         out: &mut O,
     ) -> Stepped
-        requires range { FitsItem 1 (pages_of self.old) item.now (length piece.now) }
-        requires guests { P.guests port.old ≡ 1 }
+        requires range { FitsItem (guests_of self.old) (pages_of self.old) item.now (length piece.now) }
+        requires guests { P.guests port.old ≡ guests_of self.old }
         requires pages { P.pages port.old ≡ pages_of self.old }
-        ensures stands { (setup : Setup) (state : DeskState) → Stands setup self.old (P.state port.old) state → Stands setup self.new (P.state port.new) (step setup item.now piece.now state).desk }
-        ensures posts { (setup : Setup) (state : DeskState) → Stands setup self.old (P.state port.old) state → Leads O.takes out.old (guest_posts (step setup item.now piece.now state).posts) out.new }
-        ensures drawn { item.now ≡ Item.Snap → (setup : Setup) (state : DeskState) → Stands setup self.old (P.state port.old) state → (picture_of self.new).pixels ≡ picture setup state.scene.rows state.scene.layers }
-        ensures painted { (setup : Setup) (state : DeskState) → Stands setup self.old (P.state port.old) state → (picture_of self.new).painted ≡ painted_after setup item.now (picture_of self.old).painted }
+        ensures took { TakesItem O.takes out.old out.new item.now piece.now self.old self.new (P.state port.old) (P.state port.new) }
         ensures answer { result ≡ stepped_of item.now }
-        ensures same_pages { pages_of self.new ≡ pages_of self.old }
         ensures port_guests { P.guests port.new ≡ P.guests port.old }
         ensures port_pages { P.pages port.new ≡ P.pages port.old }
     {
         match *item {
-            Item::Bytes { .. } => {
+            Item::Bytes { guest } => {
                 self.count_item();
-                self.take_piece(piece, port, out);
+                self.take_piece(guest, piece, port, out);
                 Stepped::Going
             }
-            Item::Closed { .. } => {
+            Item::Closed { guest } => {
                 self.count_item();
-                self.end(Cause::StreamEnded { a: 0, b: 0 }, out);
+                self.end(guest, Cause::StreamEnded { a: 0, b: 0 }, out);
                 Stepped::Going
             }
-            Item::Lost { .. } => {
+            Item::Lost { guest } => {
                 self.count_item();
-                self.end(Cause::LinkFailed { a: 0, b: 0 }, out);
+                self.end(guest, Cause::LinkFailed { a: 0, b: 0 }, out);
                 Stepped::Going
             }
             Item::Store {
@@ -324,6 +363,42 @@ impl Desk {
             }
             _ => Stepped::Going,
         }
+    }
+
+    /// Takes one item of the input with its piece: the bytes of a guest, cut in any way, or those of a
+    /// change of its frames, else none. It answers what it did: the picture is drawn anew exactly at
+    /// Snap, and the input ended exactly at End. Guests are told through the outlet what the item led
+    /// to. Of the port a guest's frames are read where this guest says that they changed, and changed
+    /// at Store, unless its session has ended.
+    ///
+    /// An item of one guest leaves the sessions, the windows and the frames of all others as they are.
+    /// In each picture no content of one window touches that of another, and override windows lie on
+    /// the desktop with their borders and take no more than their share of it.
+    pub fn step<P: FramePort, O: Outlet>(
+        &mut self,
+        item: &Item,
+        piece: &[u8],
+        port: &mut P,
+        out: &mut O,
+    ) -> Stepped
+        requires range { FitsItem (guests_of self.old) (pages_of self.old) item.now (length piece.now) }
+        requires guests { P.guests port.old ≡ guests_of self.old }
+        requires pages { P.pages port.old ≡ pages_of self.old }
+        ensures stands { (setup : Setup) (state : DeskState) → Stands setup self.old (P.state port.old) state → Stands setup self.new (P.state port.new) (step setup item.now piece.now state).desk }
+        ensures posts { (setup : Setup) (state : DeskState) → Stands setup self.old (P.state port.old) state → Leads O.takes out.old (guest_posts (step setup item.now piece.now state).posts) out.new }
+        ensures drawn { item.now ≡ Item.Snap → (setup : Setup) (state : DeskState) → Stands setup self.old (P.state port.old) state → (picture_of self.new).pixels ≡ picture setup state.scene.rows state.scene.layers }
+        ensures edges { (setup : Setup) (state : DeskState) → Stands setup self.old (P.state port.old) state → EdgesStayApart setup.border state.scene.rows state.scene.layers }
+        ensures limits { (setup : Setup) (state : DeskState) → Stands setup self.old (P.state port.old) state → KeepsLimits (sizes_of setup) (step setup item.now piece.now state).desk.scene.rows }
+        ensures others { (guest other : ℕ) → is_item_of guest item.now ≡ true → (other ≡ guest → ⊥) → session_in other self.new ≡ session_in other self.old }
+        ensures other_frames { (guest other : ℕ) → is_item_of guest item.now ≡ true → (other ≡ guest → ⊥) → P.state port.new other ≡ P.state port.old other }
+        ensures painted { (setup : Setup) (state : DeskState) → Stands setup self.old (P.state port.old) state → (picture_of self.new).painted ≡ painted_after setup item.now (picture_of self.old).painted }
+        ensures answer { result ≡ stepped_of item.now }
+        ensures same_guests { guests_of self.new ≡ guests_of self.old }
+        ensures same_pages { pages_of self.new ≡ pages_of self.old }
+        ensures port_guests { P.guests port.new ≡ P.guests port.old }
+        ensures port_pages { P.pages port.new ≡ P.pages port.old }
+    {
+        self.take_item(item, piece, port, out)
     }
 
     /// The picture, as it was drawn last: in the background colour alone where no Snap came yet.

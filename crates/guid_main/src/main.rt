@@ -4,6 +4,8 @@
 #[cfg(test)]
 mod frame_tests;
 #[cfg(test)]
+mod guest_tests;
+#[cfg(test)]
 mod message_tests;
 mod run;
 mod status;

@@ -59,15 +59,24 @@ pub(crate) fn joined(alloc: Global, parts: &[&[u8]]) -> Result<Vec<u8>, Fail> {
     Ok(all)
 }
 
-// A Picture record of 8 by 6 pixels: `.` is black, `R` red, `-` the grey of what was never read, `a` the
-// colour 112233 and `b` the colour aabbcc.
+// A Picture record of 8 by 6 pixels.
 pub(crate) fn picture(alloc: Global, map: &[u8]) -> Result<Vec<u8>, Fail> {
-    let mut record = Vec::new(alloc);
-    record.extend_from_slice(&[3, 155, 0, 0, 0])?;
-    record.extend_from_slice(b"P6\n8 6\n255\n")?;
+    picture_behind(alloc, &[3, 155, 0, 0, 0], b"P6\n8 6\n255\n", map)
+}
+
+// A Picture record with this head: `.` is black, `R` red, `G` green, `-` the grey of what was never read,
+// `a` the colour 112233 and `b` the colour aabbcc.
+pub(crate) fn picture_behind(
+    alloc: Global,
+    kind: &[u8],
+    head: &[u8],
+    map: &[u8],
+) -> Result<Vec<u8>, Fail> {
+    let mut record = joined(alloc, &[kind, head])?;
     for pixel in map {
         let colour: [u8; 3] = match *pixel {
             b'R' => [255, 0, 0],
+            b'G' => [0, 255, 0],
             b'-' => [128, 128, 128],
             b'a' => [0x11, 0x22, 0x33],
             b'b' => [0xaa, 0xbb, 0xcc],

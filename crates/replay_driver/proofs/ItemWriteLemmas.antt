@@ -14,15 +14,15 @@ use Rattle.io_ports.specs.declared.source.Failed.{Failed}
 use Rattle.io_ports.specs.Content.{Grows, GrowsPart, IsPrefix}
 use Rattle.io_ports.specs.Counts.{HasCause}
 use Rattle.io_ports.proofs.GrowLemmas.{grows_on, part_behind, part_front, prefix_self, prefix_nil}
-use Rattle.desk_core.specs.DeskView.{DeskView}
+use Rattle.desk_core.specs.DeskView.{DeskView, picture_of}
 use Rattle.desk_core.specs.declared.desk.Summary.{Summary}
 use Rattle.desk_core.specs.declared.desk.Stepped.{Stepped}
 use Rattle.desk_core.specs.declared.desk.Stepped.TheVariants as stepped
-use Rattle.desk_core.specs.DeskStands.{Stands, picture_of, stepped_of}
+use Rattle.desk_core.specs.DeskStands.{Stands, stepped_of}
 use Rattle.replay_driver.specs.ItemWrites.{Wrote, StepWrites, guest_bytes_of, step_bytes}
 use Rattle.record_format.specs.OutputGrammar.{picture_record, summary_record}
 use Rattle.desk_core.specs.Painting.{painted_after}
-use Rattle.desk_core.specs.PictureView.{PictureView}
+use Rattle.compositor.specs.PictureView.{PictureView}
 use Rattle.replay_driver.proofs.DeskFacts.{width_is, height_is}
 use Rattle.replay_driver.proofs.GuestPosts.{is_quiet, quiet_bytes}
 use Rattle.replay_driver.proofs.WriterLemmas.{rose_before}

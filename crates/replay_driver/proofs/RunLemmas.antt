@@ -9,8 +9,6 @@ use Rattle.desk_laws.specs.declared.item.Item.{Item}
 use Rattle.desk_laws.specs.declared.item.Item.TheVariants as items
 use Rattle.desk_laws.specs.Items.{FedItem, IsInRange, FitsItem}
 use Rattle.desk_laws.specs.Scene.{Post}
-use Rattle.desk_laws.specs.Stage.{takes_guests}
-use Rattle.std.proofs.lemmas.Bool.Decides.{nat_tests}
 use Rattle.desk_laws.specs.Frames.{PortState}
 use Rattle.desk_laws.specs.State.{DeskState, opening}
 use Rattle.desk_laws.specs.Steps.{step, run}
@@ -19,10 +17,10 @@ use Rattle.io_ports.specs.Feeds.{Answer}
 use Rattle.io_ports.specs.declared.feed.FeedFault.{FeedFault}
 use Rattle.io_ports.specs.declared.feed.FeedFault.TheVariants as feeds
 use Rattle.io_ports.proofs.GrowLemmas.{grows_none, grows_on, part_behind}
-use Rattle.desk_core.specs.DeskView.{DeskView}
+use Rattle.desk_core.specs.DeskView.{DeskView, picture_of}
 use Rattle.replay_driver.specs.declared.outcome.Outcome.TheVariants as outcomes
 use Rattle.replay_driver.specs.FeedOutcomes.{RanOver, EndsNowhereElse, after_feed}
-use Rattle.desk_core.specs.DeskStands.{Stands, picture_of}
+use Rattle.desk_core.specs.DeskStands.{Stands}
 use Rattle.replay_driver.specs.FeedRuns.{Fed, NoEnd}
 use Rattle.replay_driver.specs.ItemWrites.{step_bytes}
 use Rattle.record_format.specs.OutputGrammar.{post_bytes, posts_bytes}
@@ -261,9 +259,9 @@ end_alone guests pages item len room fits end =
     ap (λ (i : Item). record { item = i; piece = take len room }) is ∙ ap (λ (n : ℕ). record { item = items.End; piece = take n room }) none
 
 -- an item in the feed's ranges is in the desk's
-pub fits_desk : (guests pages pages' : ℕ) (item : Item) (len len' : ℕ) → guests ≡ 1 → pages ≡ pages' → len ≡ len' → FitsItem guests pages item len → FitsItem 1 pages' item len'
-fits_desk guests pages pages' item len len' one same long fits =
-    subst (λ (n : ℕ). FitsItem n pages' item len') one (subst (λ (n : ℕ). FitsItem guests n item len') same (subst (λ (n : ℕ). FitsItem guests pages item n) long fits))
+pub fits_desk : (guests guests' pages pages' : ℕ) (item : Item) (len len' : ℕ) → guests ≡ guests' → pages ≡ pages' → len ≡ len' → FitsItem guests pages item len → FitsItem guests' pages' item len'
+fits_desk guests guests' pages pages' item len len' many same long fits =
+    subst (λ (n : ℕ). FitsItem n pages' item len') many (subst (λ (n : ℕ). FitsItem guests n item len') same (subst (λ (n : ℕ). FitsItem guests pages item n) long fits))
 
 -- an item is End, which comes without bytes, or another
 pub end_or : (guests pages : ℕ) (item : Item) (len : ℕ) (room : List ℕ) → IsInRange guests pages item len → (is_end item ≡ false) ⊎ (record { item = item; piece = take len room } ≡ alone items.End)
@@ -271,7 +269,3 @@ end_or guests pages item len room fits = elim (cases_Bool (is_end item)) [
   | inl end ↦ inr (end_alone guests pages item len room fits end)
   | inr more ↦ inl more
 ]
-
--- there is one guest
-pub one_guest : (n : ℕ) → takes_guests n ≡ true → n ≡ 1
-one_guest n is = grind (arith, nat_tests)

@@ -8,9 +8,9 @@ use Rattle.desk_laws.specs.declared.item.Item.{Item}
 use Rattle.desk_laws.specs.Frames.{PortState}
 use Rattle.desk_laws.specs.State.{DeskState}
 use Rattle.desk_laws.specs.Steps.{step}
-use Rattle.desk_core.specs.DeskView.{DeskView}
+use Rattle.desk_core.specs.DeskView.{DeskView, picture_of}
 use Rattle.desk_core.specs.DeskPosts.{guest_posts}
-use Rattle.desk_core.specs.DeskStands.{Stands, picture_of}
+use Rattle.desk_core.specs.DeskStands.{Stands}
 use Rattle.record_format.specs.OutputGrammar.{posts_bytes, picture_head}
 use Rattle.desk_core.specs.Painting.{painted_after}
 

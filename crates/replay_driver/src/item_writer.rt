@@ -4,7 +4,8 @@ ghost use Rattle.desk_laws.specs.Items.{FitsItem};
 ghost use Rattle.desk_laws.specs.Picture.{picture};
 ghost use Rattle.desk_laws.specs.State.{DeskState};
 ghost use Rattle.desk_laws.specs.declared.setup.Setup.{Setup as SetupValue};
-ghost use Rattle.desk_core.specs.DeskStands.{Stands, picture_of, pages_of, stepped_of};
+ghost use Rattle.desk_core.specs.DeskView.{guests_of, pages_of, picture_of};
+ghost use Rattle.desk_core.specs.DeskStands.{Stands, stepped_of};
 ghost use Rattle.replay_driver.specs.ItemWrites.{StepWrites, Suits, guest_bytes_of, step_bytes};
 ghost use Rattle.record_format.specs.OutputGrammar.{picture_head};
 
@@ -24,8 +25,8 @@ fn step_desk<P: FramePort, K: Sink>(
     port: &mut P,
     out: &mut K,
 ) -> Result<Stepped, Failed>
-    requires range { FitsItem 1 (pages_of desk.old) item.now (length piece.now) }
-    requires guests { P.guests port.old ≡ 1 }
+    requires range { FitsItem (guests_of desk.old) (pages_of desk.old) item.now (length piece.now) }
+    requires guests { P.guests port.old ≡ guests_of desk.old }
     requires pages { P.pages port.old ≡ pages_of desk.old }
     ensures writes { (setup : SetupValue) (state : DeskState) → Stands setup desk.old (P.state port.old) state →
         StepWrites setup item.now piece.now state desk.old desk.new (P.state port.new) result (guest_bytes_of setup item.now piece.now state)
@@ -57,8 +58,8 @@ pub fn write_item<P: FramePort, K: Sink>(
     line: &mut [u8],
     out: &mut K,
 ) -> Result<(), Failed>
-    requires range { FitsItem 1 (pages_of desk.old) item.now (length piece.now) }
-    requires guests { P.guests port.old ≡ 1 }
+    requires range { FitsItem (guests_of desk.old) (pages_of desk.old) item.now (length piece.now) }
+    requires guests { P.guests port.old ≡ guests_of desk.old }
     requires pages { P.pages port.old ≡ pages_of desk.old }
     requires suits { Suits desk.old (P.state port.old) head.now (length line.old) }
     ensures writes { (setup : SetupValue) (state : DeskState) → Stands setup desk.old (P.state port.old) state →

@@ -5,7 +5,7 @@ ghost use Rattle.io_ports.specs.Content.{Grows, GrowsPart};
 ghost use Rattle.io_ports.specs.Counts.{HasCause};
 ghost use Rattle.record_format.specs.OutputGrammar.{rgb, picture_head, picture_record};
 
-use desk_core::Picture;
+use compositor::Picture;
 use io_ports::{Failed, Sink, put_all};
 use std::alloc::{AllocError, Global};
 

@@ -5,7 +5,8 @@ ghost use Rattle.desk_laws.specs.Rules.{first_broken, Fits};
 ghost use Rattle.desk_laws.specs.State.{opening};
 ghost use Rattle.replay_driver.specs.FeedOutcomes.{RanOver, after_feed};
 ghost use Rattle.frame_pool.specs.Ports.{AreZeros};
-ghost use Rattle.desk_core.specs.DeskStands.{Stands, picture_of};
+ghost use Rattle.desk_core.specs.DeskView.{picture_of};
+ghost use Rattle.desk_core.specs.DeskStands.{Stands};
 ghost use Rattle.record_format.specs.OutputGrammar.{picture_head};
 ghost use Rattle.record_format.specs.RecordGrammar.{is_end};
 

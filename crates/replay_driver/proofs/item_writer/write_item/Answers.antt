@@ -1,6 +1,6 @@
 use Rattle.std.proofs.Common.{sym, ◌∙◌, ap, ℕ, arith}
 use Rattle.record_format.specs.OutputGrammar.{picture_head}
-use Rattle.desk_core.specs.PictureView.{PictureView}
+use Rattle.compositor.specs.PictureView.{PictureView}
 use Rattle.replay_driver.proofs.DeskFacts.{width_is, height_is}
 use Rattle.replay_driver.proofs.ItemWriteLemmas.{item_failed, item_going, item_snap, item_ended, snap_is, end_is, wrote_of}
 use Rattle.replay_driver.proofs.item_writer.write_item.Goals as goal

@@ -3,10 +3,10 @@ use Rattle.desk_laws.specs.State.{opening}
 use Rattle.desk_laws.specs.Steps.{run}
 use Rattle.replay_driver.specs.declared.outcome.Outcome.{Outcome}
 use Rattle.replay_driver.specs.FeedOutcomes.{RanOver}
-use Rattle.desk_core.specs.DeskStands.{pages_of}
+use Rattle.desk_core.specs.DeskView.{guests_of, pages_of}
 use Rattle.replay_driver.proofs.WriterLemmas.{rose_before}
-use Rattle.replay_driver.proofs.RunLemmas.{started, stepped, ended, cut_short, no_item, too_long, piece_short, end_alone, fits_desk, end_or, one_guest}
-use Rattle.replay_driver.proofs.DeskFacts.{pages_is}
+use Rattle.replay_driver.proofs.RunLemmas.{started, stepped, ended, cut_short, no_item, too_long, piece_short, end_alone, fits_desk, end_or}
+use Rattle.replay_driver.proofs.DeskFacts.{guests_is, pages_is}
 use Rattle.replay_driver.proofs.run.run_items.Goals as goal
 
 pub loop-n-init : goal.loop-n-init
@@ -49,8 +49,12 @@ pub write_item-requires-clause-range : goal.write_item-requires-clause-range
 write_item-requires-clause-range g c =
     let short : c.in-Ok.next.len ≤ length c.next.new.room = omega (arith, c.loop-n.invariant.room, c.next.auto.room, piece_short _ _ c.in-Ok.next.item c.in-Ok.next.len c.in-Ok.ensures.range.in_range) in
     let long : c.in-Ok.next.len ≡ length (take c.in-Ok.next.len c.next.new.room) = omega (arith, length-take c.in-Ok.next.len c.next.new.room) in
-    fits_desk _ _ (pages_of c.loop-n.desk) c.in-Ok.next.item c.in-Ok.next.len _ (c.loop-n.invariant.guests ∙ one_guest _ c.requires.fits.taken)
+    fits_desk _ (guests_of c.loop-n.desk) _ (pages_of c.loop-n.desk) c.in-Ok.next.item c.in-Ok.next.len _
+    (c.loop-n.invariant.guests ∙ sym (guests_is _ _ _ _ c.loop-n.invariant.so_far.stands))
     (c.loop-n.invariant.pages ∙ sym (pages_is _ _ _ _ c.loop-n.invariant.so_far.stands)) long c.in-Ok.ensures.range
+
+pub write_item-requires-clause-guests : goal.write_item-requires-clause-guests
+write_item-requires-clause-guests g c = c.loop-n.invariant.port_guests ∙ sym (guests_is _ _ _ _ c.loop-n.invariant.so_far.stands)
 
 pub write_item-requires-clause-suits : goal.write_item-requires-clause-suits
 write_item-requires-clause-suits g c = record {

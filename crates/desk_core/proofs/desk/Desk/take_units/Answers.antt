@@ -1,33 +1,45 @@
 use Rattle.std.proofs.Common.{◌∙◌, refl}
+use Rattle.desk_core.specs.DeskView.{part_of}
+use Rattle.desk_core.proofs.JoinLemmas.{alone-both, alone-none}
 use Rattle.desk_core.proofs.UnitTurns.{stays-took}
 use Rattle.desk_core.proofs.PieceLemmas.{took-more}
 use Rattle.desk_core.proofs.desk.Desk.take_units.Goals as goal
 
 pub loop-init : goal.loop-init
-loop-init g c = record {
-  kept = refl;
-  same_pages = refl;
-  port_guests = refl;
-  port_pages = refl;
-  took = λ setup held state stands. stays-took g.O.Outlet.takes c.args.out.now setup held c.args.self.now (g.P.FramePort.state c.args.port.now) (g.P.FramePort.state c.args.port.now) state stands refl;
-}
+loop-init g c =
+    let guest = c.args.guest in
+    record {
+      alone = alone-none guest c.args.self.now;
+      others = λ other apart. refl;
+      port_guests = refl;
+      port_pages = refl;
+      took = λ setup held state stands.
+          stays-took g.O.Outlet.takes c.args.out.now setup guest held (part_of guest c.args.self.now) (g.P.FramePort.state c.args.port.now guest) (g.P.FramePort.state c.args.port.now guest) state stands refl;
+    }
 
 pub loop-preserved : goal.loop-preserved
-loop-preserved g c = record {
-  kept = c.take_turn.ensures.kept ∙ c.loop.invariant.kept;
-  same_pages = c.take_turn.ensures.same_pages ∙ c.loop.invariant.same_pages;
-  port_guests = c.take_turn.ensures.port_guests ∙ c.loop.invariant.port_guests;
-  port_pages = c.take_turn.ensures.port_pages ∙ c.loop.invariant.port_pages;
-  took = λ setup held state stands.
-      let first = c.loop.invariant.took setup held state stands in
-      took-more g.O.Outlet.takes c.args.out.now c.loop.out c.take_turn.new.out setup held c.args.self.now c.loop.self c.take_turn.new.self (g.P.FramePort.state c.loop.port) (g.P.FramePort.state c.take_turn.new.port) state first
-      (c.take_turn.ensures.took setup first.behind first.outcome.desk first.leads.0);
-}
+loop-preserved g c =
+    let guest = c.args.guest in
+    let done = c.loop.invariant in
+    let turn = c.take_turn.ensures in
+    record {
+      alone = alone-both guest c.args.self.now c.loop.self c.take_turn.new.self done.alone turn.alone;
+      others = λ other apart. turn.others other apart ∙ done.others other apart;
+      port_guests = turn.port_guests ∙ done.port_guests;
+      port_pages = turn.port_pages ∙ done.port_pages;
+      took = λ setup held state stands.
+          let first = done.took setup held state stands in
+          took-more g.O.Outlet.takes c.args.out.now c.loop.out c.take_turn.new.out setup guest held (part_of guest c.args.self.now) (part_of guest c.loop.self) (part_of guest c.take_turn.new.self)
+          (g.P.FramePort.state c.loop.port guest) (g.P.FramePort.state c.take_turn.new.port guest) state first
+          (turn.took setup first.behind first.outcome.desk first.leads.0);
+    }
 
 pub returns-clause-took : goal.returns-clause-took
 returns-clause-took g c = λ setup held state stands.
+    let guest = c.args.guest in
     let first = c.loop.invariant.took setup held state stands in
-    took-more g.O.Outlet.takes c.args.out.now c.loop.out c.take_turn.new.out setup held c.args.self.now c.loop.self c.take_turn.new.self (g.P.FramePort.state c.loop.port) (g.P.FramePort.state c.take_turn.new.port) state first
+    took-more g.O.Outlet.takes c.args.out.now c.loop.out c.take_turn.new.out setup guest held (part_of guest c.args.self.now) (part_of guest c.loop.self) (part_of guest c.take_turn.new.self)
+    (g.P.FramePort.state c.loop.port guest) (g.P.FramePort.state c.take_turn.new.port guest) state first
     (c.take_turn.ensures.took setup first.behind first.outcome.desk first.leads.0)
 
 pub returns-clause-settled : goal.returns-clause-settled

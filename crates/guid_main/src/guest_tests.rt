@@ -1,0 +1,256 @@
+// Several guests, override-redirect windows and window flags, through whole runs over memory. What they
+// have to write was worked by hand.
+
+use crate::message_tests::spelled;
+use crate::tests::{TAIL, gives, joined, picture_behind, summary};
+use std::alloc::Global;
+use std::test::Fail;
+
+// A black desktop of 10 by 6 pixels, borders of one pixel, and the guests `red` and `green`.
+const SHARED: [u8; 52] = [
+    81, 71, 82, 49, 1, 10, 0, 0, 0, 6, 0, 0, 0, 1, 0, 0, 0, 0, 32, 0, 0, 0, 16, 0, 0, 90, 0, 0, 0,
+    0, 0, 0, 0, 2, 0, 0, 255, 0, 3, 114, 101, 100, 0, 255, 0, 0, 5, 103, 114, 101, 101, 110,
+];
+
+// The guest `red` alone, on so many pixels, where override windows may take this percent.
+fn config_of(width: u8, height: u8, percent: u8) -> [u8; 42] {
+    let mut config = crate::tests::CONFIG;
+    config[5] = width;
+    config[9] = height;
+    config[25] = percent;
+    config
+}
+
+// Messages of a guest, behind the version 1.7, as one item.
+fn first(alloc: Global, guest: u8, numbers: &[u32]) -> Result<Vec<u8>, Fail> {
+    let messages = spelled(alloc, numbers)?;
+    let len = messages.len().min(65_536) as u32 + 4;
+    joined(
+        alloc,
+        &[&[2, guest], &len.to_le_bytes(), &[7, 0, 1, 0], &messages],
+    )
+}
+
+// Messages of a guest, as one item.
+fn then(alloc: Global, guest: u8, numbers: &[u32]) -> Result<Vec<u8>, Fail> {
+    let messages = spelled(alloc, numbers)?;
+    let len = messages.len().min(65_536) as u32;
+    joined(alloc, &[&[2, guest], &len.to_le_bytes(), &messages])
+}
+
+// The replies to the version of a guest: the daemon's 1.7, and the desktop's size, 24 bits and so many KiB.
+fn greeted(alloc: Global, guest: u8, desktop: &[u32; 4]) -> Result<Vec<u8>, Fail> {
+    let size = spelled(alloc, desktop)?;
+    joined(
+        alloc,
+        &[
+            &[1, guest, 4, 0, 0, 0, 7, 0, 1, 0],
+            &[1, guest, 16, 0, 0, 0],
+            &size,
+        ],
+    )
+}
+
+// CONFIGURE as it is told to guest 0: the place, the size, and whether it is an override window.
+fn told(alloc: Global, window: u32, place: &[u32; 5]) -> Result<Vec<u8>, Fail> {
+    let head = spelled(alloc, &[134, window, 20])?;
+    let place = spelled(alloc, place)?;
+    joined(alloc, &[&[1, 0, 32, 0, 0, 0], &head, &place])
+}
+
+// A Picture record of 10 by 6 pixels.
+fn shared_picture(alloc: Global, map: &[u8]) -> Result<Vec<u8>, Fail> {
+    picture_behind(alloc, &[3, 192, 0, 0, 0], b"P6\n10 6\n255\n", map)
+}
+
+// A Summary of so many items and messages, with so many pixels drawn.
+fn summary_of(items: u8, messages: u8, painted: u8) -> [u8; 33] {
+    let mut record = summary(items, messages);
+    record[25] = painted;
+    record
+}
+
+// Red's window of 3 by 2 at (1, 1), and then green's at (4, 2). Both have the number 1.
+fn two_mapped(alloc: Global) -> Result<Vec<u8>, Fail> {
+    let red = first(alloc, 0, &[130, 1, 24, 1, 1, 3, 2, 0, 0, 132, 1, 8, 0, 0])?;
+    let green = first(alloc, 1, &[130, 1, 24, 4, 2, 3, 2, 0, 0, 132, 1, 8, 0, 0])?;
+    joined(alloc, &[&red, &green])
+}
+
+// Both guests' replies to their versions.
+fn both_greeted(alloc: Global) -> Result<Vec<u8>, Fail> {
+    let red = greeted(alloc, 0, &[10, 6, 24, 1])?;
+    let green = greeted(alloc, 1, &[10, 6, 24, 1])?;
+    joined(alloc, &[&red, &green])
+}
+
+// Green's window alone.
+fn green_alone(alloc: Global) -> Result<Vec<u8>, Fail> {
+    shared_picture(
+        alloc,
+        b"..........\
+          ...GGGGG..\
+          ...G---G..\
+          ...G---G..\
+          ...GGGGG..\
+          ..........",
+    )
+}
+
+#[test]
+fn two_windows(rt: HostRuntime) -> Result<(), Fail> {
+    let alloc = rt.alloc();
+    let items = two_mapped(alloc)?;
+    let replies = both_greeted(alloc)?;
+    let shown = shared_picture(
+        alloc,
+        b"RRRRR.....\
+          R--GGGGG..\
+          R--G---G..\
+          RRRG---G..\
+          ...GGGGG..\
+          ..........",
+    )?;
+    gives(
+        &rt,
+        alloc,
+        &[&SHARED, &items, &TAIL],
+        &[&replies, &shown, &summary_of(4, 4, 60)],
+    )
+}
+
+// Red makes its window 1 again: red's session ends, and green keeps its window 1 and isn't told.
+#[test]
+fn one_guest_ends(rt: HostRuntime) -> Result<(), Fail> {
+    let alloc = rt.alloc();
+    let items = two_mapped(alloc)?;
+    let again = then(alloc, 0, &[130, 1, 24, 1, 1, 3, 2, 0, 0])?;
+    let replies = both_greeted(alloc)?;
+    let ended = [2, 0, 6, 1, 0, 0, 0, 0, 0, 0, 0];
+    let shown = green_alone(alloc)?;
+    gives(
+        &rt,
+        alloc,
+        &[&SHARED, &items, &again, &TAIL],
+        &[&replies, &ended, &shown, &summary_of(5, 4, 60)],
+    )
+}
+
+// Red minimizes its window: green's alone is shown.
+#[test]
+fn minimized(rt: HostRuntime) -> Result<(), Fail> {
+    let alloc = rt.alloc();
+    let items = two_mapped(alloc)?;
+    let hides = then(alloc, 0, &[145, 1, 8, 4, 0])?;
+    let replies = both_greeted(alloc)?;
+    let shown = green_alone(alloc)?;
+    gives(
+        &rt,
+        alloc,
+        &[&SHARED, &items, &hides, &TAIL],
+        &[&replies, &shown, &summary_of(5, 5, 60)],
+    )
+}
+
+// On 20 by 20 pixels a quarter is 100. A window of 8 by 8 takes 100 with its border and is granted, so it
+// is moved inside and told so; one of 8 by 9 takes 110, and stays.
+#[test]
+fn override_area_limit(rt: HostRuntime) -> Result<(), Fail> {
+    let alloc = rt.alloc();
+    let corner = 0xffff_ffff;
+    let config = config_of(20, 20, 25);
+    let replies = greeted(alloc, 0, &[20, 20, 24, 2])?;
+    let fits = first(
+        alloc,
+        0,
+        &[130, 1, 24, corner, corner, 8, 8, 0, 1, 132, 1, 8, 0, 1],
+    )?;
+    let moved = told(alloc, 1, &[1, 1, 8, 8, 1])?;
+    gives(
+        &rt,
+        alloc,
+        &[&config, &fits, &[10]],
+        &[&replies, &moved, &summary_of(2, 2, 0)],
+    )?;
+    let larger = first(
+        alloc,
+        0,
+        &[130, 1, 24, corner, corner, 8, 9, 0, 1, 132, 1, 8, 0, 1],
+    )?;
+    gives(
+        &rt,
+        alloc,
+        &[&config, &larger, &[10]],
+        &[&replies, &summary_of(2, 2, 0)],
+    )
+}
+
+// Windows of 6 by 6 and of 3 by 4 take 64 and 30 with their borders; a third of 1 by 1 would take 9 more.
+#[test]
+fn override_areas_together(rt: HostRuntime) -> Result<(), Fail> {
+    let alloc = rt.alloc();
+    let corner = 0xffff_ffff;
+    let config = config_of(20, 20, 25);
+    let items = first(
+        alloc,
+        0,
+        &[
+            130, 1, 24, corner, corner, 6, 6, 0, 1, 132, 1, 8, 0, 1, //
+            130, 2, 24, corner, corner, 3, 4, 0, 1, 132, 2, 8, 0, 1, //
+            130, 3, 24, corner, corner, 1, 1, 0, 1, 132, 3, 8, 0, 1,
+        ],
+    )?;
+    let replies = greeted(alloc, 0, &[20, 20, 24, 2])?;
+    let one = told(alloc, 1, &[1, 1, 6, 6, 1])?;
+    let two = told(alloc, 2, &[1, 1, 3, 4, 1])?;
+    gives(
+        &rt,
+        alloc,
+        &[&config, &items, &[10]],
+        &[&replies, &one, &two, &summary_of(2, 6, 0)],
+    )
+}
+
+// An override window of 4 by 2 at (18, -3).
+#[test]
+fn override_moved_inside(rt: HostRuntime) -> Result<(), Fail> {
+    let alloc = rt.alloc();
+    let config = config_of(20, 20, 90);
+    let items = first(
+        alloc,
+        0,
+        &[130, 1, 24, 18, 0xffff_fffd, 4, 2, 0, 1, 132, 1, 8, 0, 1],
+    )?;
+    let replies = greeted(alloc, 0, &[20, 20, 24, 2])?;
+    let moved = told(alloc, 1, &[15, 1, 4, 2, 1])?;
+    gives(
+        &rt,
+        alloc,
+        &[&config, &items, &[10]],
+        &[&replies, &moved, &summary_of(2, 2, 0)],
+    )
+}
+
+// A window of 4 by 4 at (2, 2) on 20 by 10 pixels goes full-screen: it gets all but the border. That the
+// flag is cleared isn't answered.
+#[test]
+fn full_screen(rt: HostRuntime) -> Result<(), Fail> {
+    let alloc = rt.alloc();
+    let config = config_of(20, 10, 90);
+    let items = first(
+        alloc,
+        0,
+        &[
+            130, 1, 24, 2, 2, 4, 4, 0, 0, 132, 1, 8, 0, 0, 145, 1, 8, 1, 0,
+        ],
+    )?;
+    let cleared = then(alloc, 0, &[145, 1, 8, 0, 1])?;
+    let replies = greeted(alloc, 0, &[20, 10, 24, 1])?;
+    let full = told(alloc, 1, &[1, 1, 18, 8, 0])?;
+    gives(
+        &rt,
+        alloc,
+        &[&config, &items, &cleared, &[10]],
+        &[&replies, &full, &summary_of(3, 4, 0)],
+    )
+}
