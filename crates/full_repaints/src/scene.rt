@@ -1,0 +1,141 @@
+// The scene: twenty windows of four guests, some of which overlap, and some of which lie partly off the
+// desktop, and what the guests do to show them.
+ghost use Rattle.std.specs.Prelude.{◌≡◌, ◌<◌, ◌≤◌, ◌*◌, None, length, vec_len, IfOk};
+ghost use Rattle.desk_laws.specs.Rules.{first_broken};
+
+use byteorder::{ByteOrder, LittleEndian};
+use desk_laws::{GuestSetup, Guests, Name, Setup};
+use gui_num::{Colour, NoMemory, Rect};
+use std::alloc::Global;
+
+// How many guests there are.
+pub(crate) const GUESTS: u32 = 4;
+
+// How many windows there are.
+pub(crate) const WINDOWS: u32 = 20;
+
+// How many of its pages each guest writes and shows.
+pub(crate) const PAGES: u32 = 64;
+
+// How many words a page has.
+const PAGE_WORDS: u32 = 1024;
+
+// The first bytes of each guest: the version 1.7, as a number whose lowest byte comes first.
+pub(crate) const VERSION: [u8; 4] = [7, 0, 1, 0];
+
+// By how much the words of a guest go on, before they are cut to colours.
+const COLOUR_STEP: u32 = 2654435761;
+
+// The types of messages, as `qubes-gui-protocol.h` numbers them.
+const CREATE: u32 = 130;
+
+const MAP: u32 = 132;
+
+const SHMIMAGE: u32 = 136;
+
+const WINDOW_DUMP: u32 = 147;
+
+// The desktop and its guests.
+pub(crate) fn setup(alloc: Global) -> Result<Setup, NoMemory>
+    ensures rules { IfOk result (λ setup. first_broken setup ≡ None) }
+    ensures guests { IfOk result (λ setup. length setup.guests ≡ 4) }
+    ensures pages { IfOk result (λ setup. setup.pages ≡ 4096) }
+{
+    let mut guests = Guests::new(alloc);
+    guests.push(guest(0xcc0000, b"red"))?;
+    guests.push(guest(0x3465a4, b"blue"))?;
+    guests.push(guest(0x73d216, b"green"))?;
+    guests.push(guest(0xedd400, b"yellow"))?;
+    Ok(Setup {
+        width: 1920,
+        height: 1080,
+        border: 2,
+        pages: 4096,
+        tiles: 4096,
+        percent: 90,
+        background: Colour(0x202830),
+        guests,
+    })
+}
+
+// A guest with this label colour and name.
+fn guest(colour: u32, name: &[u8]) -> GuestSetup
+    requires { length name.now ≤ 255 }
+    ensures colour { result.colour.0 ≡ colour }
+    ensures name { result.name ≡ name.now }
+{
+    GuestSetup {
+        colour: Colour(colour),
+        name: Name::new(name),
+    }
+}
+
+// The guest of the k-th window from the top.
+pub(crate) fn guest_of(k: u32) -> u32
+    ensures { result < 4 }
+{
+    k % GUESTS
+}
+
+// Where the k-th window from the top is.
+fn place_of(k: u32) -> Rect
+    requires { k < 20 }
+    ensures width { result.w ≤ 4096 }
+    ensures height { result.h ≤ 4096 }
+{
+    Rect {
+        x: (k * 397 % 2100) as i32 - 160,
+        y: (k * 251 % 1200) as i32 - 120,
+        w: 320 + k * 173 % 700,
+        h: 240 + k * 131 % 500,
+    }
+}
+
+// The bytes of a page, whose words are the colours of pixels.
+pub(crate) fn page_bytes(alloc: Global, guest: u32, page: u32) -> Result<Vec<u8>, NoMemory>
+    requires guest { guest < 4 }
+    requires page { page < 64 }
+    ensures { IfOk result (λ bytes. vec_len bytes ≡ 4096) }
+{
+    let mut words = vec![in alloc; 0u32; PAGE_WORDS as usize]?;
+    put_colours(&mut words, (guest * PAGES + page) * PAGE_WORDS);
+    spelled(alloc, &words)
+}
+
+// Gives each word a colour of its own, which goes by the number of the first one.
+fn put_colours(words: &mut [u32], first: u32) {
+    let mut colour = first.wrapping_mul(COLOUR_STEP);
+    for i in 0..words.len() {
+        words[i] = colour & 0xffffff;
+        colour = colour.wrapping_add(COLOUR_STEP);
+    }
+}
+
+// The messages by which the k-th window from the top is made, is given its pages, is mapped, and is read
+// as a whole.
+pub(crate) fn window_bytes(alloc: Global, k: u32) -> Result<Vec<u8>, NoMemory>
+    requires { k < 20 }
+{
+    let window = k + 1;
+    let Rect { x, y, w, h } = place_of(k);
+    let refs = (w * h).div_ceil(PAGE_WORDS);
+    let mut words = Vec::new(alloc);
+    let (left, top) = (x.cast_unsigned(), y.cast_unsigned());
+    words.extend_from_slice(&[CREATE, window, 24, left, top, w, h, 0, 0])?;
+    words.extend_from_slice(&[WINDOW_DUMP, window, 16 + 4 * refs, 0, w, h, 32])?;
+    for n in 0..refs {
+        words.push(n % PAGES)?;
+    }
+    words.extend_from_slice(&[MAP, window, 8, 0, 0])?;
+    words.extend_from_slice(&[SHMIMAGE, window, 16, 0, 0, w, h])?;
+    spelled(alloc, &words)
+}
+
+// Words as a message has them.
+fn spelled(alloc: Global, words: &[u32]) -> Result<Vec<u8>, NoMemory>
+    ensures { IfOk result (λ bytes. vec_len bytes ≡ 4 * length words.now) }
+{
+    let mut bytes = vec![in alloc; 0u8; 4 * words.len()]?;
+    LittleEndian::write_u32_into(words, &mut bytes);
+    Ok(bytes)
+}
