@@ -16,7 +16,8 @@ use Rattle.desk_laws.specs.declared.cause.Cause.TheVariants.{BadVersion, PixelBu
 use Rattle.desk_laws.specs.Sizes.{Sizes, sizes_of}
 use Rattle.desk_laws.specs.Ranges.{rect_in_range}
 use Rattle.desk_laws.specs.Stream.{StreamUnit, Word, Stop, Whole, Cut, cut}
-use Rattle.desk_laws.specs.Rows.{Row, id_of, mine, is_row, row_with, placed_at, outer}
+use Rattle.gui_wire.specs.declared.limits.TheConstants.{WINDOW_FLAG_FULLSCREEN}
+use Rattle.desk_laws.specs.Rows.{Row, id_of, mine, is_row, row_with, placed_at, outer, has_flag}
 use Rattle.desk_laws.specs.Layers.{are_apart}
 use Rattle.desk_laws.specs.Scene.{Scene, Input}
 use Rattle.desk_laws.specs.Tiles.{tiles_in_use, tiles_needed}
@@ -194,12 +195,15 @@ module _ (sizes : Sizes) (own : List Row) (limits : OwnLimits sizes own) where
         full : Row
         full = placed_at (whole_desktop sizes) (record row { flags = flags })
 
+        goes : Bool
+        goes = not (has_flag WINDOW_FLAG_FULLSCREEN row.flags) && has_flag WINDOW_FLAG_FULLSCREEN flags
+
         by_full : (b : Bool) → goes_full sizes row flags ≡ b → FitsVerdict sizes own (if b
             then Goes (Replaced full) (tells_place row.window (whole_desktop sizes) false ∷ [])
             else Goes (Replaced (record row { flags = flags })) [])
         by_full true h =
-            let wanted = and_parts ((row.flags % 2 == 0 && flags % 2 == 1) && not row.over) _ h in
-            let normal : row.over ≡ false = not-true row.over (and_parts (row.flags % 2 == 0 && flags % 2 == 1) (not row.over) wanted.0).1 in
+            let wanted = and_parts (goes && not row.over) _ h in
+            let normal : row.over ≡ false = not-true row.over (and_parts goes (not row.over) wanted.0).1 in
             subst (λ o. IsWithin sizes own row.window (row.mapped && o) (whole_desktop sizes)) (sym normal)
             (and-within sizes own limits row.window row.mapped false (whole_desktop sizes) (none-within sizes own limits row.window (whole_desktop sizes)))
         by_full false h = stays

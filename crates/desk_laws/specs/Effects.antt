@@ -7,11 +7,13 @@ use Rattle.gui_wire.specs.AgentMessages as agent
 use Rattle.gui_wire.specs.AgentMessages.{AgentMessage, reading}
 use Rattle.gui_wire.specs.DaemonMessages as daemon
 use Rattle.gui_wire.specs.DaemonMessages.{DaemonMessage, daemon_spelling}
+use Rattle.gui_wire.specs.declared.limits.TheConstants.{MAX_WINDOW_WIDTH, MAX_WINDOW_HEIGHT, WINDOW_FLAG_FULLSCREEN, WINDOW_FLAG_MINIMIZE, WINDOW_FLAGS}
+use Rattle.desk_laws.specs.declared.limits.TheConstants.{MAX_WINDOWS, PAGE_BYTES, VERSION_REPLY_MINOR, DUMP_ACK_MINOR}
 use Rattle.desk_laws.specs.Sizes.{Sizes}
 use Rattle.desk_laws.specs.declared.cause.Cause.{Cause}
 use Rattle.desk_laws.specs.declared.cause.Cause.TheVariants.{BadVersion, BadType, BadLength, BadRange, UnknownWindow, WindowExists, TooManyWindows, RefRange, FrameBudget, PixelBudget}
 use Rattle.desk_laws.specs.Stream.{StreamUnit, Word, Stop, Whole}
-use Rattle.desk_laws.specs.Rows.{Row, DumpOf, mine, is_row, row_with, grid, placed_at}
+use Rattle.desk_laws.specs.Rows.{Row, DumpOf, mine, is_row, row_with, has_flag, grid, placed_at}
 use Rattle.desk_laws.specs.Ranges.{rect_in_range}
 use Rattle.desk_laws.specs.Override.{Placed, effective, taken_besides}
 use Rattle.desk_laws.specs.Tiles.{tiles_in_use, tiles_needed}
@@ -24,7 +26,7 @@ pub data Change : Type 0 where
   Same : Change
   -- a new row, last
   Added : Row → Change
-  -- the row of the same window replaced_in this row
+  -- the row of the same window becomes this row
   Replaced : Row → Change
   -- the window's row is gone, and rows that named it name 0
   Removed : ℕ → Change
@@ -80,7 +82,7 @@ exists_already None window = None
 exists_already (Some row) window = Some (WindowExists window 0)
 
 abbrev pub too_many : List Row → ℕ → Option Cause
-too_many own window = if nat_lt (length own) 1024 then None else Some (TooManyWindows window 1024)
+too_many own window = if nat_lt (length own) MAX_WINDOWS then None else Some (TooManyWindows window MAX_WINDOWS)
 
 -- the first reference that isn't one of the pages
 abbrev pub bad_ref : ℕ → List ℕ → Option Cause
@@ -100,7 +102,7 @@ over_budget need pages = if nat_lt pages need then Some (FrameBudget need pages)
 
 -- the references that a dump of this size needs
 abbrev pub pages_for : ℕ → ℕ → ℕ
-pages_for width height = (4 * width * height + 4095) / 4096
+pages_for width height = (4 * width * height + (PAGE_BYTES - 1)) / PAGE_BYTES
 
 abbrev pub wrong_count : ℕ → ℕ → ℕ → Option Cause
 wrong_count refs pages len = if refs == pages then None else Some (BadLength len 0)
@@ -137,8 +139,8 @@ points a = grid a.x a.y a.w a.h
 -- where the word of a pixel lies
 abbrev pub frame_place : DumpOf → ℕ × ℕ → FramePlace
 frame_place dump p = record {
-  page = slice_index dump.refs (4 * (p.1 * dump.width + p.0) / 4096);
-  word = 4 * (p.1 * dump.width + p.0) % 4096 / 4;
+  page = slice_index dump.refs (4 * (p.1 * dump.width + p.0) / PAGE_BYTES);
+  word = 4 * (p.1 * dump.width + p.0) % PAGE_BYTES / 4;
 }
 
 abbrev pub frame_places : Option DumpOf → List (ℕ × ℕ) → List FramePlace
@@ -190,17 +192,14 @@ same_z a b = int_le a b && int_le b a
 abbrev pub same_rect : Rect → Rect → Bool
 same_rect a b = (same_z a.x b.x && same_z a.y b.y) && (a.w == b.w && a.h == b.h)
 
-abbrev pub minimize : ℕ
-minimize = 4
-
 -- flags without some of them
 abbrev pub flags_without : ℕ → ℕ → ℕ
 flags_without flags unset = flags - bit_and flags unset
 
 abbrev pub flags_after : ℕ → ℕ → ℕ → ℕ
-flags_after flags set unset = bit_and (bit_or (flags_without flags unset) set) 7
+flags_after flags set unset = bit_and (bit_or (flags_without flags unset) set) WINDOW_FLAGS
 
--- a row placed_by by the override rule
+-- a row placed by the override rule
 abbrev pub placed_by : Placed → Row → Row
 placed_by placed row = record (placed_at placed.rect row) { over = placed.over }
 
@@ -241,7 +240,7 @@ abbrev pub tells_move : Row → Row → List (List ℕ)
 tells_move old new = if same_rect old.place new.place then [] else tells_place new.window new.place true ∷ []
 
 abbrev pub unmapped_row : Row → Row
-unmapped_row row = record row { mapped = false; over = false; flags = flags_without row.flags minimize }
+unmapped_row row = record row { mapped = false; over = false; flags = flags_without row.flags WINDOW_FLAG_MINIMIZE }
 
 -- CONFIGURE of a row: by the override rule where it is mapped
 abbrev pub configured_row : Sizes → List Row → Bool → Rect → Row → Row
@@ -256,13 +255,13 @@ whole_desktop sizes = record {
   x = pos sizes.border;
   y = pos sizes.border;
   w = sizes.width - 2 * sizes.border;
-  h = min 6144 (sizes.height - 2 * sizes.border);
+  h = min MAX_WINDOW_HEIGHT (sizes.height - 2 * sizes.border);
 }
 
 -- whether WINDOW_FLAGS puts the row on the whole desktop
 abbrev pub goes_full : Sizes → Row → ℕ → Bool
 goes_full sizes row flags =
-    ((row.flags % 2 == 0 && flags % 2 == 1) && not row.over)
+    ((not (has_flag WINDOW_FLAG_FULLSCREEN row.flags) && has_flag WINDOW_FLAG_FULLSCREEN flags) && not row.over)
     && (nat_lt (2 * sizes.border) sizes.width && nat_lt (2 * sizes.border) sizes.height)
 
 abbrev pub flagged : Sizes → Row → ℕ → Verdict
@@ -272,7 +271,7 @@ flagged sizes row flags =
     else Goes (Replaced (record row { flags = flags })) []
 
 abbrev pub acks : ℕ → ℕ → List (List ℕ)
-acks minor window = if nat_le 7 minor then daemon_spelling window daemon.DumpAck ∷ [] else []
+acks minor window = if nat_le DUMP_ACK_MINOR minor then daemon_spelling window daemon.DumpAck ∷ [] else []
 
 abbrev pub reads : Sizes → List Row → Row → Area → Verdict
 reads sizes own row area =
@@ -326,8 +325,8 @@ range_fault window len (agent.Flags flags_set flags_unset) = None
 range_fault window len (agent.Class class name) = None
 range_fault window len (agent.WindowDump kind width height bpp refs) =
     first_of_causes (out_of (isnt_zero kind) 1 kind
-    ∷ out_of (width == 0 || nat_lt 16384 width) 2 width
-    ∷ out_of (height == 0 || nat_lt 6144 height) 3 height
+    ∷ out_of (width == 0 || nat_lt MAX_WINDOW_WIDTH width) 2 width
+    ∷ out_of (height == 0 || nat_lt MAX_WINDOW_HEIGHT height) 3 height
     ∷ out_of (not (bpp == 24 || bpp == 32)) 4 bpp
     ∷ wrong_count (length refs) (pages_for width height) len ∷ [])
 range_fault window len (agent.Cursor cursor) = None
@@ -347,12 +346,13 @@ message_verdict sizes guest minor own header (Some m) =
     unless (range_fault header.window header.len m)
     (in_range_verdict sizes guest minor own header.window header.len m)
 
--- the answers to the version: the daemon's version, from minor 4 on, and the desktop
+-- the numbers of the desktop that answer the version
 abbrev pub xconf : Sizes → List ℕ
 xconf sizes = words (sizes.width ∷ sizes.height ∷ 24 ∷ (sizes.width * sizes.height * 4 + 1023) / 1024 ∷ [])
 
+-- the answers to the version: the daemon's own from a minor version on, and the desktop
 abbrev pub greeting : Sizes → ℕ → List (List ℕ)
-greeting sizes minor = if nat_le 4 minor then word 65543 ∷ xconf sizes ∷ [] else xconf sizes ∷ []
+greeting sizes minor = if nat_le VERSION_REPLY_MINOR minor then word 65543 ∷ xconf sizes ∷ [] else xconf sizes ∷ []
 
 -- what a unit does, decided from its guest's own rows
 abbrev pub verdict : Sizes → ℕ → ℕ → List Row → StreamUnit → Verdict

@@ -1,6 +1,7 @@
 -- The shared frames of one guest, as one who reads them word by word sees them.
 use Rattle.std.specs.Prelude.{ℕ, ◌+◌, ◌-◌, ◌*◌, ◌/◌, ◌^◌, min, Bool, not, nat_le, ◌==◌, List, [], ◌∷◌, ◌++◌, filter, length, slice_index, slice_set, replicate, if◌then◌else◌}
 use Rattle.gui_wire.specs.Words.{all_words}
+use Rattle.desk_laws.specs.declared.limits.TheConstants.{PAGE_WORDS, MAX_WAITING_STORES}
 
 -- a store that waits for its due load
 pub record Waiting : Type 0 where
@@ -25,7 +26,7 @@ write_words words i (v ∷ vs) = write_words (slice_set words i v) (i + 1) vs
 
 -- a store written
 abbrev pub write : List ℕ → Waiting → List ℕ
-write words s = write_words words (1024 * s.page + s.offset / 4) (all_words s.bytes)
+write words s = write_words words (PAGE_WORDS * s.page + s.offset / 4) (all_words s.bytes)
 
 -- stores written, one after the other
 abbrev pub write_all : List ℕ → List Waiting → List ℕ
@@ -57,7 +58,7 @@ still_waiting loads waiting = filter (λ s. not (is_due loads s)) waiting
 -- one load at a word of a page: the word, and the state after it
 abbrev pub load : PortState → ℕ → ℕ → ℕ × PortState
 load (Pool words loads waiting) page word = (
-  slice_index (settled_words words loads waiting) (1024 * page + word),
+  slice_index (settled_words words loads waiting) (PAGE_WORDS * page + word),
   Pool (settled_words words loads waiting) (counted (loads + 1)) (still_waiting loads waiting),
 )
 load (Tape []) page word = (0, Tape [])
@@ -68,7 +69,7 @@ abbrev pub stored_in : List ℕ → ℕ → List Waiting → ℕ → ℕ → ℕ
 stored_in words loads waiting delay page offset bytes =
     if delay == 0
     then Pool (write words (record { due = loads; page = page; offset = offset; bytes = bytes })) loads waiting
-    else if length waiting == 64
+    else if length waiting == MAX_WAITING_STORES
     then Pool (write words (record { due = loads; page = page; offset = offset; bytes = bytes })) loads waiting
     else Pool words loads (waiting ++ record { due = counted (loads + delay); page = page; offset = offset; bytes = bytes } ∷ [])
 
@@ -83,7 +84,7 @@ pub record FramePlace : Type 0 where
   pub page : ℕ
   pub word : ℕ
 
--- glances one after the other: the words, and the state after them
+-- loads one after the other: the words, and the state after them
 pub record Loads : Type 0 where
   pub words : List ℕ
   pub port : PortState
@@ -99,4 +100,4 @@ load_all port (s ∷ frame_places) = load_first (load port s.page s.word).0 (loa
 
 -- the state of a region of zero words
 abbrev pub zeros : ℕ → PortState
-zeros pages = Pool (replicate (1024 * pages) 0) 0 []
+zeros pages = Pool (replicate (PAGE_WORDS * pages) 0) 0 []

@@ -1,11 +1,12 @@
 -- What a granted input does to its row, and what it answers.
 use Rattle.std.specs.Prelude.{ℕ, false, List, [], ◌∷◌, Option, Some, None, replicate, if◌then◌else◌, pos}
+use Rattle.gui_wire.specs.declared.limits.TheConstants.{WINDOW_FLAG_MINIMIZE}
 use Rattle.gui_wire.specs.DaemonMessages as daemon
 use Rattle.gui_wire.specs.DaemonMessages.{DaemonMessage, daemon_spelling}
 use Rattle.desk_laws.specs.declared.input.GIn.{GIn}
 use Rattle.desk_laws.specs.declared.input.GIn.TheVariants.{Key, Button, Motion, Crossing, Focus, Keymap, Close, Place, Restored, ClipAsk, ClipGive}
 use Rattle.desk_laws.specs.Rows.{Row, mine, row_with, placed_at}
-use Rattle.desk_laws.specs.Effects.{Change, Same, Replaced, changed, tells_place, flags_without, minimize, as_one}
+use Rattle.desk_laws.specs.Effects.{Change, Same, Replaced, changed, tells_place, flags_without, as_one}
 
 -- the window that a granted input names, if it names one
 abbrev pub window_of : GIn → Option ℕ
@@ -24,7 +25,7 @@ window_of (ClipGive window) = Some window
 -- the change of its row
 abbrev pub grant_change : GIn → Row → Change
 grant_change (Place window rect) row = Replaced (placed_at rect row)
-grant_change (Restored window) row = Replaced (record row { flags = flags_without row.flags minimize })
+grant_change (Restored window) row = Replaced (record row { flags = flags_without row.flags WINDOW_FLAG_MINIMIZE })
 grant_change input row = Same
 
 -- the messages to the agent

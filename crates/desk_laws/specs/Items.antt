@@ -3,6 +3,7 @@
 use Rattle.std.specs.Prelude.{◌≡◌, ℕ, ◌+◌, ◌%◌, ◌≤◌, ◌<◌, List, IsTrue}
 use Rattle.desk_laws.specs.declared.item.Item.{Item}
 use Rattle.desk_laws.specs.declared.item.Item.TheVariants.{Bytes, Closed, Store, Key, Move, Press, Close, Next, Restore, MoveTo, SizeTo, Snap, End, Lost, Idle}
+use Rattle.desk_laws.specs.declared.limits.TheConstants.{MAX_PIECE, PAGE_BYTES}
 use Rattle.desk_laws.specs.Stage.{takes_item}
 
 -- an item and its piece: a guest's bytes, or those of a change of its frames, else nothing
@@ -13,7 +14,7 @@ pub record FedItem : Type 0 where
 -- the length of a piece of a guest's bytes
 pub record IsPiece (len : ℕ) : Type 0 where
   pub some : 1 ≤ len
-  pub most : len ≤ 65536
+  pub most : len ≤ MAX_PIECE
 
 -- a change of whole words within one page
 pub record IsChange (page offset len pages : ℕ) : Type 0 where
@@ -21,7 +22,7 @@ pub record IsChange (page offset len pages : ℕ) : Type 0 where
   pub offset_aligned : offset % 4 ≡ 0
   pub len_aligned : len % 4 ≡ 0
   pub some : 4 ≤ len
-  pub within : offset + len ≤ 4096
+  pub within : offset + len ≤ PAGE_BYTES
 
 -- the item's guest, page, state and button are in their ranges, and its piece has a length that it may have
 abbrev pub IsInRange : ℕ → ℕ → Item → ℕ → Type 0

@@ -2,18 +2,19 @@
 use Rattle.std.specs.Prelude.{ℕ, min, max, ℤ, pos, negsuc}
 use Rattle.std.specs.Int.{w32, cast_signed, int_min, int_max}
 use Rattle.gui_num.specs.declared.Rect.{Rect}
+use Rattle.gui_wire.specs.declared.limits.TheConstants.{MAX_WINDOW_WIDTH, MAX_WINDOW_HEIGHT}
 
 -- a place from -32768 to 32767
 abbrev pub place_in_range : ℤ → ℤ
 place_in_range z = int_max (negsuc 32767) (int_min (pos 32767) z)
 
--- a width from 1 to 16384 (qubes-gui-protocol.h, MAX_WINDOW_WIDTH)
+-- a width from 1 to the greatest one
 abbrev pub width_in_range : ℕ → ℕ
-width_in_range n = max 1 (min n 16384)
+width_in_range n = max 1 (min n MAX_WINDOW_WIDTH)
 
--- a height from 1 to 6144 (qubes-gui-protocol.h, MAX_WINDOW_HEIGHT)
+-- a height from 1 to the greatest one
 abbrev pub height_in_range : ℕ → ℕ
-height_in_range n = max 1 (min n 6144)
+height_in_range n = max 1 (min n MAX_WINDOW_HEIGHT)
 
 -- the rectangle of four numbers as they stand in a body
 abbrev pub rect_in_range : ℕ → ℕ → ℕ → ℕ → Rect

@@ -2,6 +2,7 @@
 use Rattle.std.specs.Prelude.{ℕ, zero, suc, ◌+◌, ◌*◌, ◌/◌, ◌%◌, Bool, ◌&&◌, not, ◌==◌, nat_lt, List, [], ◌∷◌, map, filter, find, flat_map, Option, Some, None, if◌then◌else◌, slice_get}
 use Rattle.gui_num.specs.declared.Rect.{Rect}
 use Rattle.gui_num.specs.Rects.{grown}
+use Rattle.gui_wire.specs.declared.limits.TheConstants.{WINDOW_FLAG_MINIMIZE}
 use Rattle.desk_laws.specs.declared.row_id.RowId.{RowId}
 
 -- a dump: its size in pixels, and the pages that its pixels lie in
@@ -54,9 +55,13 @@ row_with window rows = find (λ row. row.window == window) rows
 abbrev pub row_at : RowId → List Row → Option Row
 row_at id rows = find (λ row. is_row id.guest id.window row) rows
 
+-- whether a flag, a power of two, is set
+abbrev pub has_flag : ℕ → ℕ → Bool
+has_flag flag flags = flags / flag % 2 == 1
+
 -- hidden: the flag MINIMIZE is set
 abbrev pub is_hidden : Row → Bool
-is_hidden row = row.flags / 4 % 2 == 1
+is_hidden row = has_flag WINDOW_FLAG_MINIMIZE row.flags
 
 -- shown: mapped and not hidden
 abbrev pub is_shown : Row → Bool

@@ -1,5 +1,6 @@
 -- One step of the whole desktop: an item with its piece.
 use Rattle.std.specs.Prelude.{ℕ, ◌+◌, List, [], ◌∷◌, ◌++◌, map, length, Option, Some, None, ◌||◌}
+use Rattle.gui_wire.specs.declared.limits.TheConstants.{MAX_CLIPBOARD_SIZE}
 use Rattle.gui_wire.specs.AgentMessages as agent
 use Rattle.gui_wire.specs.AgentMessages.{AgentMessage, reading}
 use Rattle.desk_laws.specs.declared.setup.Setup.{Setup}
@@ -19,15 +20,11 @@ use Rattle.desk_laws.specs.Settle.{settle}
 use Rattle.desk_laws.specs.Events.{route}
 use Rattle.desk_laws.specs.Items.{FedItem}
 
--- how many bytes the clipboard holds (qubes-gui-protocol.h, MAX_CLIPBOARD_SIZE)
-abbrev pub clip_limit : ℕ
-clip_limit = 65000
-
 -- ---- one unit
 
 -- the clipboard after a message
 abbrev pub clip_after : ℕ → Option AgentMessage → Clip → Clip
-clip_after guest (Some (agent.ClipData bytes)) clip = give clip_limit guest bytes clip
+clip_after guest (Some (agent.ClipData bytes)) clip = give MAX_CLIPBOARD_SIZE guest bytes clip
 clip_after guest m clip = clip
 
 -- the clipboard after a unit

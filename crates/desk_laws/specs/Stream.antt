@@ -6,6 +6,7 @@ use Rattle.gui_wire.specs.declared.LengthRule.TheVariants.{Unknown, Exactly, Cli
 use Rattle.gui_wire.specs.AgentMessages.{rule_of, fits_rule}
 use Rattle.gui_wire.specs.Headers.{header_at}
 use Rattle.gui_wire.specs.Words.{word_at}
+use Rattle.desk_laws.specs.declared.limits.TheConstants.{MAX_SKIPPED_CLIPBOARD}
 use Rattle.desk_laws.specs.declared.cause.Cause.{Cause}
 use Rattle.desk_laws.specs.declared.cause.Cause.TheVariants.{BadType, BadLength, ClipTooLong}
 
@@ -26,7 +27,7 @@ pub data Front : Type 0 where
 abbrev pub fault_by : LengthRule → Header → Option Cause
 fault_by Unknown header = Some (BadType header.kind 0)
 fault_by (Exactly n) header = if fits_rule (Exactly n) header.len then None else Some (BadLength header.len 0)
-fault_by Clip header = if nat_lt 256000 header.len then Some (ClipTooLong header.len 0) else None
+fault_by Clip header = if nat_lt MAX_SKIPPED_CLIPBOARD header.len then Some (ClipTooLong header.len 0) else None
 fault_by Dump header = if fits_rule Dump header.len then None else Some (BadLength header.len 0)
 
 -- the fault of a header alone

@@ -11,6 +11,7 @@ mod ids;
 mod input;
 mod item;
 mod law;
+mod limits;
 mod row_id;
 mod rules;
 mod setup;
@@ -24,6 +25,10 @@ pub use item::Item;
 pub use law::{
     law_ended_session, law_of_changes, law_of_cutting, law_of_edges, law_of_others, law_of_pieces,
     law_of_sound_states,
+};
+pub use limits::{
+    DUMP_ACK_MINOR, MAX_GUESTS, MAX_PAGES, MAX_PIECE, MAX_SKIPPED_CLIPBOARD, MAX_TILES,
+    MAX_WAITING_STORES, MAX_WINDOWS, PAGE_BYTES, PAGE_WORDS, TILE_SIDE, VERSION_REPLY_MINOR,
 };
 pub use row_id::RowId;
 pub use setup::{GuestSetup, Guests, Name, Setup};

@@ -2,7 +2,8 @@
 use Rattle.std.specs.Prelude.{ℕ, ℤ, pos, negsuc, ◌≤◌, ◌≤ℤ◌, true, false, List, length}
 use Rattle.gui_num.specs.declared.Rect.{Rect}
 use Rattle.desk_laws.specs.Rows.{Row, placed_at}
-use Rattle.desk_laws.specs.Effects.{text_of, flags_without, minimize, unmapped_row}
+use Rattle.gui_wire.specs.declared.limits.TheConstants.{WINDOW_FLAG_MINIMIZE}
+use Rattle.desk_laws.specs.Effects.{text_of, flags_without, unmapped_row}
 use Rattle.window_table.specs.declared.pane.Pane.{Pane}
 use Rattle.tile_store.specs.declared.shelf.Tile.{Tile}
 use Rattle.tile_store.specs.Held.{swept}
@@ -19,7 +20,7 @@ moved_to x y place = record place { x = x; y = y }
 abbrev pub pane_edited : Edit → Pane → Pane
 pane_edited (Map asked transient x y over) pane =
     record pane { place = moved_to x y pane.place; mapped = true; asked = asked; over = over; transient = transient }
-pane_edited Unmap pane = record pane { mapped = false; over = false; flags = flags_without pane.flags minimize }
+pane_edited Unmap pane = record pane { mapped = false; over = false; flags = flags_without pane.flags WINDOW_FLAG_MINIMIZE }
 pane_edited (Configure place asked over) pane = record pane { place = place; asked = asked; over = over }
 pane_edited (Title text) pane = record pane { title = record { items = text_of text.now } }
 pane_edited Dock pane = record pane { docked = true }

@@ -4,7 +4,7 @@ ghost use Rattle.gui_wire.specs.AgentMessages.{rule_of};
 ghost use Rattle.gui_wire.specs.Headers.{header_at, head_result};
 
 use crate::words::word_at;
-use crate::{Header, LengthRule, WireFault};
+use crate::{Header, LengthRule, MAX_DUMP_LEN, WireFault};
 
 /// The header that the first 12 bytes spell: type, window and length of the body, in this order.
 pub fn header_of(bytes: &[u8]) -> Header
@@ -51,7 +51,7 @@ pub fn head_check(header: Header) -> Result<(), WireFault>
         LengthRule::Unknown => return Err(WireFault::Kind(header.kind)),
         LengthRule::Exactly(len) => header.len == len,
         LengthRule::Clip => true,
-        LengthRule::Dump => 16 <= header.len && header.len <= 393232 && header.len % 4 == 0,
+        LengthRule::Dump => 16 <= header.len && header.len <= MAX_DUMP_LEN && header.len % 4 == 0,
     };
     if fits {
         Ok(())

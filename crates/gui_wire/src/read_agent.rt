@@ -1,5 +1,6 @@
 // The messages from an agent, read out of their bodies.
 ghost use Rattle.std.specs.Prelude.{◌≡◌, ◌<◌, ◌≤◌, ◌%◌, ◌++◌, ℕ, length, option_map, IsTrue, IfOk, IsOkAnd, MatchResult};
+ghost use Rattle.gui_wire.specs.declared.limits.TheConstants.{MAX_DUMP_LEN};
 ghost use Rattle.gui_wire.specs.AgentMessages.{AgentMessage, reading, rule_of, fits_rule, spelling, HasSpelling};
 ghost use Rattle.gui_wire.specs.Headers.{header_bytes, head_result};
 ghost use Rattle.gui_wire.specs.Seen.{message};
@@ -67,7 +68,7 @@ fn class_of(body: &[u8]) -> AgentMsg<'_>
 
 fn dump_of(body: &[u8]) -> AgentMsg<'_>
     requires low { 16 ≤ length body.now }
-    requires high { length body.now ≤ 393232 }
+    requires high { length body.now ≤ MAX_DUMP_LEN }
     requires whole { length body.now % 4 ≡ 0 }
     ensures { Some (message result) ≡ reading 147 body.now }
 {

@@ -33,8 +33,8 @@ pub fn agent_len(msg: &AgentMsg<'_>) -> usize
 
 /// Writes the message's spelling for a window: type, window and length of the body as numbers of four
 /// bytes, the lowest first, and then the body. It answers how many bytes that are, and the rest of
-/// `out` stays. A text has 128 bytes, class and name have 64 each, and there are at most 98,304
-/// references.
+/// `out` stays. A text has 128 bytes, class and name have 64 each, and there are at most
+/// `MAX_DUMP_REFS` references.
 pub fn spell_agent(window: u32, msg: &AgentMsg<'_>, out: &mut [u8]) -> usize
     requires lengths { KeepsLengths (message msg.now) }
     requires room { 12 + length (body_of (message msg.now)) ≤ length out.old }
