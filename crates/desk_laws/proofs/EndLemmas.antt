@@ -14,7 +14,7 @@ use Rattle.desk_laws.specs.Scene.{Input, Took, Closing, Losing}
 use Rattle.desk_laws.specs.Effects.{Effect, changed, Cleared}
 use Rattle.desk_laws.specs.State.{DeskState, StepOutcome, Session, fresh, session_of, with_session, count_item}
 use Rattle.desk_laws.specs.Steps.{step, take_unit, take_units, take_bytes, take_store, end_session, unit_done, unit_effect, unit_of_open, ends, session_after, with_rest, rest_of_open, bytes_of_open, end_of_open, store_of_open}
-use Rattle.desk_laws.specs.Endings.{IsGone, EndsLeaveNothing, EndedDoesNothing}
+use Rattle.desk_laws.specs.Endings.{IsGone, EndsLeaveNothing}
 use Rattle.desk_laws.proofs.UnitLemmas.{units-left, session-put}
 
 -- ---- the rows of a guest after its end
@@ -149,17 +149,6 @@ module _ (setup : Setup) (guest other : ℕ) (apart : other ≢ guest) where
       by_end (Some c) = refl
 
 -- a change of frames ends no session
--- a change of one guest's frames leaves the sessions of the others
-pub store-other : (guest other : ℕ) → other ≢ guest → (delay page offset : ℕ) (bytes : List ℕ) (desk : DeskState)
-    → session_of other (take_store guest delay page offset bytes desk).desk ≡ session_of other desk
-store-other guest other apart delay page offset bytes desk = by_end (session_of guest desk).ended
-  where
-    by_end : (e : Option Cause) → session_of other (store_of_open guest delay page offset bytes e desk).desk ≡ session_of other desk
-    by_end None =
-        let stored : Session = record (session_of guest desk) { port = store (session_of guest desk).port delay page offset bytes } in
-        get_or-set_other desk.sessions guest other stored (fresh 0) apart
-    by_end (Some c) = refl
-
 pub store-ended : (guest delay page offset : ℕ) (bytes : List ℕ) (other : ℕ) (desk : DeskState) → other < length desk.sessions
     → (session_of other (take_store guest delay page offset bytes desk).desk).ended ≡ (session_of other desk).ended
 store-ended guest delay page offset bytes other desk known = by_end (session_of guest desk).ended
@@ -178,7 +167,7 @@ store-ended guest delay page offset bytes other desk known = by_end (session_of 
     by_end None = by_guest (other == guest) refl
     by_end (Some c) = refl
 
--- ---- the laws
+-- ---- the law
 
 -- an item of one guest: it ends another's session never, and its own as given
 of-item : (guest other : ℕ) (desk after : DeskState) → (session_of other desk).ended ≡ None → is_some (session_of other after).ended ≡ true
@@ -214,15 +203,3 @@ ends-leave_nothing setup (item.Lost g) piece guest cause state known running is 
 ends-leave_nothing setup (item.Store g delay page offset) piece guest cause state known running is =
     let no = sym is ∙ store-ended g delay page offset piece guest (count_item state) known ∙ running in cc
 ends-leave_nothing setup i piece guest cause state known running is = let no = sym is ∙ running in cc
-
--- an item of a session that has ended
-pub ended-does_nothing : EndedDoesNothing
-ended-does_nothing setup (item.Bytes g) piece guest cause state own over =
-    ap (λ e. bytes_of_open setup g piece e (count_item state)) (ap (λ n. (session_of n state).ended) (eqb-true g guest own) ∙ over)
-ended-does_nothing setup (item.Closed g) piece guest cause state own over =
-    ap (λ e. end_of_open setup g Closing (StreamEnded 0 0) e (count_item state)) (ap (λ n. (session_of n state).ended) (eqb-true g guest own) ∙ over)
-ended-does_nothing setup (item.Store g delay page offset) piece guest cause state own over =
-    ap (λ e. store_of_open g delay page offset piece e (count_item state)) (ap (λ n. (session_of n state).ended) (eqb-true g guest own) ∙ over)
-ended-does_nothing setup (item.Lost g) piece guest cause state own over =
-    ap (λ e. end_of_open setup g Losing (LinkFailed 0 0) e (count_item state)) (ap (λ n. (session_of n state).ended) (eqb-true g guest own) ∙ over)
-ended-does_nothing setup i piece guest cause state own over = cc

@@ -6,8 +6,6 @@ pub mod CheckLemmas
 pub mod CuttingLemmas
 pub mod LayerLemmas
 pub mod OtherLemmas
-pub mod PaintLemmas
-pub mod PieceLemmas
 pub mod RowLemmas
 pub mod RuleLemmas
 pub mod ShareLemmas

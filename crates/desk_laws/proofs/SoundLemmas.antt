@@ -1,33 +1,28 @@
--- Every state that a run reaches is sound.
+-- Each step keeps a state sound.
 use Rattle.std.proofs.Common.{◌≡◌, ◌≢◌, ℕ, ◌<◌, Bool, true, false, ◌==◌, List, [], ◌∷◌, ◌++◌, length, map, Option, Some, None, refl, sym, ◌∙◌, ap, subst, length-set}
-use Rattle.std.specs.List.{All}
 use Rattle.std.proofs.lemmas.Bool.{eqb-true, eqb-false}
-use Rattle.std.proofs.lemmas.List.Elements.{All-head, All-tail}
 use Rattle.desk_laws.specs.declared.setup.Setup.{Setup}
 use Rattle.desk_laws.specs.declared.cause.Cause.{Cause}
 use Rattle.desk_laws.specs.declared.cause.Cause.TheVariants.{StreamEnded, LinkFailed}
 use Rattle.desk_laws.specs.declared.item.Item.TheVariants as item
 use Rattle.desk_laws.specs.Sizes.{sizes_of}
-use Rattle.desk_laws.specs.Stage.{takes_item}
-use Rattle.desk_laws.specs.Items.{FedItem}
 use Rattle.desk_laws.specs.Stream.{StreamUnit, Cut, cut}
 use Rattle.desk_laws.specs.Rows.{id_of, mine}
 use Rattle.desk_laws.specs.Layers.{are_apart}
 use Rattle.desk_laws.specs.Scene.{Scene, Input, Closing, Losing}
 use Rattle.desk_laws.specs.Frames.{load_all, store}
 use Rattle.desk_laws.specs.Effects.{Verdict, Ends, Greets, Goes, Reads, verdict, Cleared, Replaced, drawn_row, frame_places, points}
-use Rattle.desk_laws.specs.State.{DeskState, session_of, opening, count_item}
-use Rattle.desk_laws.specs.Steps.{step, run, take_unit, take_units, take_bytes, end_session, unit_of_open, with_rest, bytes_of_open, end_of_open, take_store, store_of_open}
+use Rattle.desk_laws.specs.State.{DeskState, session_of, count_item}
+use Rattle.desk_laws.specs.Steps.{take_unit, take_units, take_bytes, end_session, unit_of_open, with_rest, bytes_of_open, end_of_open, take_store, store_of_open}
 use Rattle.desk_laws.specs.Following.{LayersFollow}
 use Rattle.desk_laws.specs.Override.{KeepsLimits}
 use Rattle.desk_laws.specs.Endings.{IsGone}
-use Rattle.desk_laws.specs.Others.{OthersStay}
-use Rattle.desk_laws.specs.Sound.{IsSound, OpeningIsSound, StepsKeepSound, RunsAreSound}
+use Rattle.desk_laws.specs.Sound.{IsSound, OpeningIsSound, StepsKeepSound}
 use Rattle.desk_laws.proofs.FollowChanges.{none-follow}
 use Rattle.desk_laws.proofs.ListedLemmas.{AreListed, done, rest-scene, bytes-listed, end-listed}
 use Rattle.desk_laws.proofs.LimitLemmas.{none-limited, bytes-limited, end-limited}
 use Rattle.desk_laws.proofs.OtherLemmas.{others-keep_rows}
-use Rattle.desk_laws.proofs.EndLemmas.{length-unit, length-rest, bytes-other, end-other, store-other, ends-leave_nothing, store-ended}
+use Rattle.desk_laws.proofs.EndLemmas.{length-unit, length-rest, bytes-other, end-other, ends-leave_nothing, store-ended}
 
 -- ---- the rows of others, and the number of sessions
 
@@ -133,7 +128,7 @@ counted-sound setup state is = record { apart = is.apart; lists = is.lists; gone
 pub opening-is_sound : OpeningIsSound
 opening-is_sound setup = record { apart = refl; lists = none-follow; gone = λ guest cause known over. refl; limits = none-limited (sizes_of setup) }
 
-stored-scene : (guest delay page offset : ℕ) (bytes : List ℕ) (e : Option Cause) (desk : DeskState) → (store_of_open guest delay page offset bytes e desk).desk.scene ≡ desk.scene
+pub stored-scene : (guest delay page offset : ℕ) (bytes : List ℕ) (e : Option Cause) (desk : DeskState) → (store_of_open guest delay page offset bytes e desk).desk.scene ≡ desk.scene
 stored-scene guest delay page offset bytes None desk = refl
 stored-scene guest delay page offset bytes (Some cause) desk = refl
 
@@ -197,41 +192,3 @@ steps-keep_sound setup item.Snap piece state taken is = counted-sound setup stat
 steps-keep_sound setup item.End piece state taken is = counted-sound setup state is
 steps-keep_sound setup item.Idle piece state taken is = is
 steps-keep_sound setup i piece state taken is = cc
-
-runs-sound : (setup : Setup) (items : List FedItem) (state : DeskState) → All (λ i. takes_item i.item ≡ true) items → IsSound setup state → IsSound setup (run setup items state).desk
-runs-sound setup [] state taken is = is
-runs-sound setup (i ∷ items) state taken is =
-    runs-sound setup items (step setup i.item i.piece state).desk (All-tail (λ x. takes_item x.item ≡ true) i items taken)
-    (steps-keep_sound setup i.item i.piece state (All-head (λ x. takes_item x.item ≡ true) i items taken) is)
-
-pub runs-are_sound : RunsAreSound
-runs-are_sound setup items taken = runs-sound setup items (opening setup) taken (opening-is_sound setup)
-
--- ---- what an item of one guest leaves of the others
-
-other-than : (guest g other : ℕ) → (g == guest) ≡ true → other ≢ guest → other ≢ g
-other-than guest g other own apart = λ same. apart (same ∙ eqb-true g guest own)
-
-pub others-stay : OthersStay
-others-stay setup (item.Bytes g) piece guest other state own apart =
-    let far = other-than guest g other own apart in
-    record { rows = bytes-keep setup g other far piece (count_item state); session = bytes-other setup g other far piece (count_item state) }
-others-stay setup (item.Closed g) piece guest other state own apart =
-    let far = other-than guest g other own apart in
-    record {
-      rows = end-keeps setup g other far Closing (StreamEnded 0 0) (count_item state);
-      session = end-other setup g other far Closing (StreamEnded 0 0) (count_item state);
-    }
-others-stay setup (item.Lost g) piece guest other state own apart =
-    let far = other-than guest g other own apart in
-    record {
-      rows = end-keeps setup g other far Losing (LinkFailed 0 0) (count_item state);
-      session = end-other setup g other far Losing (LinkFailed 0 0) (count_item state);
-    }
-others-stay setup (item.Store g delay page offset) piece guest other state own apart =
-    let far = other-than guest g other own apart in
-    record {
-      rows = ap (λ (s : Scene). mine other s.rows) (stored-scene g delay page offset piece (session_of g state).ended (count_item state));
-      session = store-other g other far delay page offset piece (count_item state);
-    }
-others-stay setup i piece guest other state own apart = absurd (cc)

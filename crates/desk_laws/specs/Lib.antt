@@ -22,12 +22,7 @@ pub mod State
 pub mod Settle
 pub mod Events
 pub mod Steps
-pub mod Pieces
 pub mod Endings
 pub mod Others
 pub mod Edges
 pub mod Sound
-pub mod WorkedRows
-pub mod WorkedStreams
-pub mod WorkedFrames
-pub mod WorkedGuests

@@ -15,21 +15,16 @@ mod limits;
 mod row_id;
 mod rules;
 mod setup;
-mod worked;
 
 pub use cause::Cause;
 pub use checks::law_first_cause;
 pub use ids::Ids;
 pub use input::GIn;
 pub use item::Item;
-pub use law::{
-    law_ended_session, law_of_changes, law_of_cutting, law_of_edges, law_of_others, law_of_pieces,
-    law_of_sound_states,
-};
+pub use law::{law_of_changes, law_of_cutting, law_of_edges};
 pub use limits::{
     DUMP_ACK_MINOR, MAX_GUESTS, MAX_PAGES, MAX_PIECE, MAX_SKIPPED_CLIPBOARD, MAX_TILES,
     MAX_WAITING_STORES, MAX_WINDOWS, PAGE_BYTES, PAGE_WORDS, TILE_SIDE, VERSION_REPLY_MINOR,
 };
 pub use row_id::RowId;
 pub use setup::{GuestSetup, Guests, Name, Setup};
-pub use worked::{worked_frames, worked_guests, worked_rows, worked_streams};

@@ -1,7 +1,7 @@
 use Rattle.std.proofs.Common.{refl}
-use Rattle.desk_laws.specs.WorkedRows.{red, small_desktop, bytes, just, version}
-use Rattle.desk_laws.specs.WorkedGuests.{green, shared_desktop, desktop_of, green_bytes, mapped_at, outcome_of, two_mapped, greeting_to, none, red_label, green_label, grey, both_windows, green_window, made_full}
-use Rattle.desk_laws.proofs.worked.worked_guests.Goals as goal
+use Rattle.run_laws.specs.WorkedRows.{red, small_desktop, bytes, just, version}
+use Rattle.run_laws.specs.WorkedGuests.{green, shared_desktop, desktop_of, green_bytes, mapped_at, outcome_of, two_mapped, greeting_to, none, red_label, green_label, grey, both_windows, green_window, made_full}
+use Rattle.run_laws.proofs.worked.worked_guests.Goals as goal
 
 pub returns-clause-two_windows : goal.returns-clause-two_windows
 unfolding red small_desktop bytes just version green shared_desktop desktop_of green_bytes mapped_at outcome_of two_mapped greeting_to none red_label green_label grey both_windows green_window made_full

@@ -1,7 +1,7 @@
 use Rattle.std.proofs.Common.{refl}
-use Rattle.desk_laws.specs.WorkedRows.{red, small_desktop, bytes, just, version, greeting, label}
-use Rattle.desk_laws.specs.WorkedFrames.{one_page, window_of_three, three_words, report, three_reported, framed}
-use Rattle.desk_laws.proofs.worked.worked_frames.Goals as goal
+use Rattle.run_laws.specs.WorkedRows.{red, small_desktop, bytes, just, version, greeting, label}
+use Rattle.run_laws.specs.WorkedFrames.{one_page, window_of_three, three_words, report, three_reported, framed}
+use Rattle.run_laws.proofs.worked.worked_frames.Goals as goal
 
 pub returns-clause-frame_changes_between_loads : goal.returns-clause-frame_changes_between_loads
 unfolding red small_desktop bytes just version greeting label one_page window_of_three three_words report three_reported framed

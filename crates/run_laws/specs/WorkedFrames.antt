@@ -10,7 +10,7 @@ use Rattle.desk_laws.specs.Items.{FedItem}
 use Rattle.desk_laws.specs.Scene.{Reply, Ended, Picture, Summary}
 use Rattle.desk_laws.specs.State.{StepOutcome, opening}
 use Rattle.desk_laws.specs.Steps.{run}
-use Rattle.desk_laws.specs.WorkedRows.{small_desktop, bytes, just, version, label, greeting}
+use Rattle.run_laws.specs.WorkedRows.{small_desktop, bytes, just, version, label, greeting}
 
 -- a desktop with one page for each guest and so many tiles
 unfoldable pub one_page : ℕ → Setup

@@ -1,6 +1,6 @@
 use Rattle.std.proofs.Common.{refl}
-use Rattle.desk_laws.specs.WorkedRows.{red, small_desktop, bytes, just, version, window_at, posts, greeting, background, label, blank, ring}
-use Rattle.desk_laws.proofs.worked.worked_rows.Goals as goal
+use Rattle.run_laws.specs.WorkedRows.{red, small_desktop, bytes, just, version, window_at, posts, greeting, background, label, blank, ring}
+use Rattle.run_laws.proofs.worked.worked_rows.Goals as goal
 
 pub returns-clause-empty_desktop : goal.returns-clause-empty_desktop
 unfolding red small_desktop bytes just version window_at posts greeting background label blank

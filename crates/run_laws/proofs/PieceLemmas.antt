@@ -11,7 +11,7 @@ use Rattle.desk_laws.specs.Scene.{Took}
 use Rattle.desk_laws.specs.Effects.{Effect, effect}
 use Rattle.desk_laws.specs.State.{DeskState, StepOutcome, Session, stays, and_next, step_after, fresh, session_of, with_session, count_item}
 use Rattle.desk_laws.specs.Steps.{take_unit, take_units, take_bytes, take_cut, unit_done, unit_effect, unit_of_open, went, ends, session_after, with_rest, rest_of_open, bytes_of_open}
-use Rattle.desk_laws.specs.Pieces.{with_items, with_items_out, PiecesJoin}
+use Rattle.run_laws.specs.Pieces.{with_items, with_items_out, PiecesJoin}
 use Rattle.desk_laws.proofs.Cutting.{cuts_in_pieces, cut-stops}
 
 -- what came out stays, and the state is changed

@@ -11,7 +11,7 @@ use Rattle.desk_laws.specs.Rows.{span}
 use Rattle.desk_laws.specs.Scene.{Post, Reply, Ended, Picture, Summary}
 use Rattle.desk_laws.specs.State.{opening}
 use Rattle.desk_laws.specs.Steps.{run}
-use Rattle.desk_laws.specs.WorkedRows.{small_desktop, bytes, just, version, window_at, posts, greeting, ring}
+use Rattle.run_laws.specs.WorkedRows.{small_desktop, bytes, just, version, window_at, posts, greeting, ring}
 
 -- one byte at a time: the posts of the one window, but each byte is an item
 abbrev pub OneByteAtATime : Type 0

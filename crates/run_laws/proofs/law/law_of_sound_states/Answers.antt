@@ -1,5 +1,6 @@
-use Rattle.desk_laws.proofs.SoundLemmas.{opening-is_sound, steps-keep_sound, runs-are_sound}
-use Rattle.desk_laws.proofs.law.law_of_sound_states.Goals as goal
+use Rattle.desk_laws.proofs.SoundLemmas.{opening-is_sound, steps-keep_sound}
+use Rattle.run_laws.proofs.SoundRuns.{runs-are_sound}
+use Rattle.run_laws.proofs.law.law_of_sound_states.Goals as goal
 
 pub returns-clause-opening : goal.returns-clause-opening
 returns-clause-opening c = opening-is_sound

@@ -1,7 +1,6 @@
 -- Small runs of several guests, and of override and full-screen windows, worked by hand from the definitions' words,
 -- which the definitions have to give.
 use Rattle.std.specs.Prelude.{ℕ, ◌≡◌, ◌^◌, ◌-◌, Bool, true, false, List, [], ◌∷◌, ◌++◌, map, replicate, pos}
-use Rattle.gui_num.specs.declared.Rect.{Rect}
 use Rattle.gui_wire.specs.Words.{words}
 use Rattle.gui_wire.specs.AgentMessages as agent
 use Rattle.gui_wire.specs.AgentMessages.{spelling}
@@ -13,7 +12,7 @@ use Rattle.desk_laws.specs.Items.{FedItem}
 use Rattle.desk_laws.specs.Scene.{Post, Reply, Ended, Picture}
 use Rattle.desk_laws.specs.State.{StepOutcome, opening}
 use Rattle.desk_laws.specs.Steps.{run}
-use Rattle.desk_laws.specs.WorkedRows.{red, small_desktop, bytes, just, version}
+use Rattle.run_laws.specs.WorkedRows.{red, small_desktop, bytes, just, version}
 
 -- the guest `green`, whose label is green
 unfoldable pub green : GuestSetup

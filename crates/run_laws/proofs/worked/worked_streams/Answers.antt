@@ -1,7 +1,7 @@
 use Rattle.std.proofs.Common.{refl}
-use Rattle.desk_laws.specs.WorkedRows.{red, small_desktop, bytes, just, version, window_at, posts, greeting, background, label, blank, ring}
-use Rattle.desk_laws.specs.WorkedStreams.{four_pages, dump_of, few_posts}
-use Rattle.desk_laws.proofs.worked.worked_streams.Goals as goal
+use Rattle.run_laws.specs.WorkedRows.{red, small_desktop, bytes, just, version, window_at, posts, greeting, background, label, blank, ring}
+use Rattle.run_laws.specs.WorkedStreams.{four_pages, dump_of, few_posts}
+use Rattle.run_laws.proofs.worked.worked_streams.Goals as goal
 
 pub returns-clause-one_byte_at_a_time : goal.returns-clause-one_byte_at_a_time
 unfolding red small_desktop bytes just version window_at posts greeting background label blank ring four_pages dump_of few_posts

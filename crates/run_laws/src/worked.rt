@@ -1,8 +1,8 @@
 // Small runs that the definitions have to give.
-ghost use Rattle.desk_laws.specs.WorkedRows.{EmptyDesktop, OneWindow, WindowOffTheCorner, WindowCreatedTwice};
-ghost use Rattle.desk_laws.specs.WorkedStreams.{OneByteAtATime, WidthOutOfRange, WidthBroughtIntoRange, ReferencePastThePages, DumpAcknowledged, DumpOfAnOldAgent, DumpOfSixteenBits, WrongVersion, EarlyEnd, ClipboardTooLong, WindowLimit};
-ghost use Rattle.desk_laws.specs.WorkedFrames.{FrameChangesBetweenLoads, LoadedOnce, ContentsShown, ReportOutsideTheDump, NothingLoadedOutside, ReportOutOfRange, CutAndGrown, TooFewTiles};
-ghost use Rattle.desk_laws.specs.WorkedGuests.{TwoWindows, OneGuestEnds, OverrideAreaLimit, OverrideAreasTogether, OverrideMovedInside, FullScreenTold, FullScreenStays, MinimizedIsHidden};
+ghost use Rattle.run_laws.specs.WorkedRows.{EmptyDesktop, OneWindow, WindowOffTheCorner, WindowCreatedTwice};
+ghost use Rattle.run_laws.specs.WorkedStreams.{OneByteAtATime, WidthOutOfRange, WidthBroughtIntoRange, ReferencePastThePages, DumpAcknowledged, DumpOfAnOldAgent, DumpOfSixteenBits, WrongVersion, EarlyEnd, ClipboardTooLong, WindowLimit};
+ghost use Rattle.run_laws.specs.WorkedFrames.{FrameChangesBetweenLoads, LoadedOnce, ContentsShown, ReportOutsideTheDump, NothingLoadedOutside, ReportOutOfRange, CutAndGrown, TooFewTiles};
+ghost use Rattle.run_laws.specs.WorkedGuests.{TwoWindows, OneGuestEnds, OverrideAreaLimit, OverrideAreasTogether, OverrideMovedInside, FullScreenTold, FullScreenStays, MinimizedIsHidden};
 
 /// The definitions give the small runs that were worked by hand. It does nothing.
 pub fn worked_rows()

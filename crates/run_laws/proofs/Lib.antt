@@ -1,0 +1,4 @@
+pub mod EndedSessions
+pub mod OtherGuests
+pub mod PieceLemmas
+pub mod SoundRuns

@@ -1,0 +1,5 @@
+pub mod Pieces
+pub mod WorkedRows
+pub mod WorkedStreams
+pub mod WorkedFrames
+pub mod WorkedGuests

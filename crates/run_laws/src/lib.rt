@@ -1,0 +1,9 @@
+//! Laws over whole runs of the definitions, and small runs worked by hand that the definitions have to
+//! give. The calls do nothing: what is known stands in their contracts, and no other crate needs it.
+#![tactic(auto)]
+
+mod law;
+mod worked;
+
+pub use law::{law_ended_session, law_of_others, law_of_pieces, law_of_sound_states};
+pub use worked::{worked_frames, worked_guests, worked_rows, worked_streams};
