@@ -26,7 +26,7 @@ use Rattle.desk_laws.specs.Effects.{Change, Same, Added, Replaced, Removed, Clea
 use Rattle.desk_laws.specs.Following.{ChangesOne}
 use Rattle.desk_laws.specs.State.{DeskState, session_of}
 use Rattle.desk_laws.specs.Steps.{take_unit, take_units, take_bytes, end_session, unit_of_open, with_rest, bytes_of_open, end_of_open}
-use Rattle.desk_laws.specs.Override.{Placed, effective, is_granted, moved_inside, taken_besides, is_over, area_over, LiesOnDesktop, KeepsLimits}
+use Rattle.desk_laws.specs.Override.{Placement, effective, is_granted, moved_inside, taken_besides, is_over, area_over, LiesOnDesktop, KeepsLimits}
 use Rattle.desk_laws.proofs.ChangeLemmas.{IsOfOne, window_of_unit, of_unit, found-window}
 use Rattle.desk_laws.proofs.OtherLemmas.{others-keep_rows}
 use Rattle.desk_laws.proofs.ShareLemmas.{besides-le, besides-and_row, replaced-area, added-area, fewer-area, forgetting-area}
@@ -117,7 +117,7 @@ module _ (sizes : Sizes) (own : List Row) (limits : OwnLimits sizes own) where
         h = place.h;
       }
 
-      result : Bool → Placed
+      result : Bool → Placement
       result b = if b then record { rect = moved; over = true } else record { rect = place; over = false }
 
       by_grant : (b : Bool) → is_granted sizes asked place (taken_besides sizes.border window own) ≡ b → IsWithin sizes own window (result b).over (result b).rect
@@ -180,7 +180,7 @@ module _ (sizes : Sizes) (own : List Row) (limits : OwnLimits sizes own) where
     fits-configured : (asked : Bool) (place : Rect) → FitsRow sizes own (configured_row sizes own asked place row)
     fits-configured asked place = by_mapped row.mapped refl
       where
-        e : Placed
+        e : Placement
         e = effective sizes asked place (taken_besides sizes.border row.window own)
 
         by_mapped : (b : Bool) → row.mapped ≡ b

@@ -6,7 +6,7 @@ use Rattle.desk_laws.specs.Rows.{Row}
 use Rattle.desk_laws.specs.Layers.{Layers, topmost}
 use Rattle.desk_laws.specs.Settle.{content_owner}
 
--- two pixels that touch sideways, upright or cornerwise, or are one
+-- two pixels that touch sideways, upright or diagonally, or are one
 pub record Touch (p q : Point) : Type 0 where
   pub left : p.x ≤ℤ (q.x +ℤ pos 1)
   pub right : q.x ≤ℤ (p.x +ℤ pos 1)

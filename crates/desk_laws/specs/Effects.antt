@@ -15,7 +15,7 @@ use Rattle.desk_laws.specs.declared.cause.Cause.TheVariants.{BadVersion, BadType
 use Rattle.desk_laws.specs.Stream.{StreamUnit, Word, Stop, Whole}
 use Rattle.desk_laws.specs.Rows.{Row, DumpOf, mine, is_row, row_with, has_flag, grid, placed_at}
 use Rattle.desk_laws.specs.Ranges.{rect_in_range}
-use Rattle.desk_laws.specs.Override.{Placed, effective, taken_besides}
+use Rattle.desk_laws.specs.Override.{Placement, effective, taken_besides}
 use Rattle.desk_laws.specs.Tiles.{tiles_in_use, tiles_needed}
 use Rattle.desk_laws.specs.Frames.{PortState, FramePlace, Loads, load_all}
 
@@ -200,7 +200,7 @@ abbrev pub flags_after : ℕ → ℕ → ℕ → ℕ
 flags_after flags set unset = bit_and (bit_or (flags_without flags unset) set) WINDOW_FLAGS
 
 -- a row placed by the override rule
-abbrev pub placed_by : Placed → Row → Row
+abbrev pub placed_by : Placement → Row → Row
 placed_by placed row = record (placed_at placed.rect row) { over = placed.over }
 
 -- the row of an accepted CREATE
@@ -226,7 +226,7 @@ created guest window place parent asked = record {
 }
 
 -- a row moved by the override rule, with the size that it has
-abbrev pub moved_by : Placed → Row → Row
+abbrev pub moved_by : Placement → Row → Row
 moved_by placed row = record row { place = placed.rect; over = placed.over }
 
 -- MAP of a row, by the override rule, which never changes its size

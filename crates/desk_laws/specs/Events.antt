@@ -106,7 +106,7 @@ release_by (Some grab) code state scene =
     then with_deliveries scene (record scene.seat { grab = grab_left grab.row (released code grab.buttons) }) (button grab.row false code state scene)
     else ignored scene
 
--- a button was pressed or let go
+-- a button was pressed or released
 abbrev pub press : Setup → Bool → ℕ → ℕ → Scene → InputOutcome
 press setup true code state scene = press_by setup scene.seat.pointer scene.seat.grab code state scene
 press setup false code state scene = release_by scene.seat.grab code state scene

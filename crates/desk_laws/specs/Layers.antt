@@ -31,7 +31,7 @@ HaveSame xs ys = (id : RowId) → is_in xs id ≡ is_in ys id
 abbrev pub without : RowId → List RowId → List RowId
 without id ids = filter (λ other. not (same_row id other)) ids
 
--- the id placed_by last, where it stands in the list
+-- the list with this id last, where it stands in it
 abbrev pub to_end : RowId → List RowId → List RowId
 to_end id ids = if is_in ids id then without id ids ++ id ∷ [] else ids
 

@@ -28,13 +28,13 @@ abbrev pub moved_inside : ℤ → ℕ → ℕ → ℕ → ℤ
 moved_inside z size border limit = int_max (pos border) (int_min z (pos (limit - size - border)))
 
 -- where a window is put, and whether it is in the override layer
-pub record Placed : Type 0 where
+pub record Placement : Type 0 where
   pub rect : Rect
   pub over : Bool
 
 -- the override rule: a granted window is moved into the desktop and is in the override layer, another one stays
 -- where it is and is in the normal layer
-abbrev pub effective : Sizes → Bool → Rect → ℕ → Placed
+abbrev pub effective : Sizes → Bool → Rect → ℕ → Placement
 effective sizes asked place taken =
     if is_granted sizes asked place taken
     then record {

@@ -25,7 +25,7 @@ rect_in_range x y width height = record {
   h = height_in_range height;
 }
 
--- the size that a signed number asks for: one below 1 replaced_in 1
+-- the size that a signed number asks for: 1 where it is below 1
 abbrev pub size_of : ℤ → ℕ
 size_of (pos n) = n
 size_of (negsuc n) = 0

@@ -16,7 +16,7 @@ pub record Grab : Type 0 where
   pub row : RowId
   pub buttons : List ℕ
 
--- the pointer, the grab and the pressed_keys keys, and the focus and hover that were last told
+-- the pointer, the grab and the pressed keys, and the focus and hover that were last told
 pub record Seat : Type 0 where
   pub pointer : Option Point
   pub grab : Option Grab

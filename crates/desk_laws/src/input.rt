@@ -6,14 +6,14 @@ use gui_num::Rect;
 /// left corner of the window's content.
 #[derive(Clone, Copy, Debug, PartialEq, Eq)]
 pub enum GIn {
-    /// A key was pressed or let go.
+    /// A key was pressed or released.
     Key {
         window: u32,
         down: bool,
         code: u8,
         state: u16,
     },
-    /// A button was pressed or let go.
+    /// A button was pressed or released.
     Button {
         window: u32,
         down: bool,

@@ -21,7 +21,7 @@ pub enum Item {
         page: u32,
         offset: u32,
     },
-    /// A key was pressed or let go.
+    /// A key was pressed or released.
     Key {
         down: bool,
         code: u8,
@@ -33,7 +33,7 @@ pub enum Item {
         y: i32,
         state: u16,
     },
-    /// A button, 1 to 15, was pressed or let go.
+    /// A button, 1 to 15, was pressed or released.
     Press {
         down: bool,
         button: u8,

@@ -12,9 +12,10 @@ pub fn law_of_cutting()
 
 /// Does nothing. Its contract says that a message changes the row of its own window (where the row
 /// goes, others of its guest that named it name 0), and no row of another guest; that the pixels which
-/// it reads are those of its own window; that the lists of the layers, where they had each mapped row once, follow such a change by one step (the row goes,
-/// comes on top of its layer and to the front of the focus list, or changes into the other layer);
-/// and that they lose a guest's rows, and no others, at its session's end.
+/// it reads are those of its own window; that the lists of the layers, where they had each mapped row
+/// once, follow such a change by one step (the row goes, comes on top of its layer and to the front of
+/// the focus list, or changes into the other layer); and that they lose a guest's rows, and no others,
+/// at its session's end.
 pub fn law_of_changes()
     ensures one_window { MessagesChangeOne }
     ensures own_pixels { MessagesReadOne }
@@ -24,7 +25,7 @@ pub fn law_of_changes()
 {}
 
 /// Does nothing. Its contract says that two pixels of a picture that touch sideways, upright or
-/// cornerwise never show the contents of two windows: a ring of at least one pixel lies between.
+/// diagonally never show the contents of two windows: a ring of at least one pixel lies between.
 pub fn law_of_edges()
     ensures { PicturesKeepEdges }
 {}

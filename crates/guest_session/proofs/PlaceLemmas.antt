@@ -11,7 +11,7 @@ use Rattle.gui_num.specs.declared.Rect.{Rect}
 use Rattle.gui_num.specs.Rects.{grown, area}
 use Rattle.desk_laws.specs.Sizes.{Sizes}
 use Rattle.desk_laws.specs.Rows.{Row, placed_at}
-use Rattle.desk_laws.specs.Override.{Placed, effective, moved_inside, taken_besides}
+use Rattle.desk_laws.specs.Override.{Placement, effective, moved_inside, taken_besides}
 use Rattle.desk_laws.specs.Effects.{Replaced, Goes, flagged, goes_full, whole_desktop, tells_place, moved_by, mapped_row, configured_row, placed_by}
 use Rattle.redirect_limits.specs.declared.Placed as limits
 use Rattle.redirect_limits.specs.Limits.{placed_of}
@@ -53,7 +53,7 @@ pub mapped-is : (sizes : Sizes) (own : List Row) (asked : Bool) (transient windo
 mapped-is sizes own asked transient window row place put named at rule wide high =
     ap (λ r. let new : Row = record row { place = r; mapped = true; asked = asked; over = put.over; transient = transient } in new)
     (ap (moved_to put.rect.x put.rect.y) (sym at) ∙ rect-is put.rect place wide high)
-    ∙ ap (λ (p : Placed). moved_by p (record row { mapped = true; asked = asked; transient = transient }))
+    ∙ ap (λ (p : Placement). moved_by p (record row { mapped = true; asked = asked; transient = transient }))
     (rule
     ∙ ap (λ r. effective sizes asked r (taken_besides sizes.border window own)) at
     ∙ ap (λ n. effective sizes asked row.place (taken_besides sizes.border n own)) (sym named))
@@ -68,10 +68,10 @@ configured-is sizes own asked place window row old put named at rule =
     ∙ ap (λ n. configured_to sizes own n (standing_of row) asked place) (sym named))
     ∙ by row.mapped
   where
-    edited : Placed → Row
+    edited : Placement → Row
     edited p = record (placed_at p.rect row) { asked = asked; over = p.over }
 
-    rule' : Placed
+    rule' : Placement
     rule' = effective sizes asked place (taken_besides sizes.border row.window own)
 
     by : (b : Bool) → edited (cond b rule' (record { rect = place; over = row.over }))
@@ -98,7 +98,7 @@ clamped sizes asked place taken pixels percent =
     ap put
     (past-limit taken (area (grown place sizes.border)) (sizes.percent * sizes.width * sizes.height) (share-small sizes pixels percent))
   where
-    put : Bool → Placed
+    put : Bool → Placement
     put b =
         cond ((asked && (nat_le (place.w + 2 * sizes.border) sizes.width && nat_le (place.h + 2 * sizes.border) sizes.height)) && b)
         (record {

@@ -3,7 +3,7 @@ use Rattle.std.specs.Prelude.{ℕ, ◌^◌, Bool, false, List, [], ◌∷◌, if
 use Rattle.gui_num.specs.declared.Rect.{Rect}
 use Rattle.desk_laws.specs.Sizes.{Sizes}
 use Rattle.desk_laws.specs.Rows.{Row, placed_at}
-use Rattle.desk_laws.specs.Override.{Placed, effective, taken_besides}
+use Rattle.desk_laws.specs.Override.{Placement, effective, taken_besides}
 use Rattle.desk_laws.specs.Effects.{goes_full, whole_desktop, tells_place}
 use Rattle.guest_session.specs.declared.rows.Standing.{Standing}
 
@@ -16,7 +16,7 @@ abbrev pub standing_of : Row → Standing
 standing_of row = record { place = row.place; mapped = row.mapped; over = row.over; flags = row.flags }
 
 -- where CONFIGURE puts a window of this standing that asks for this place: by the override rule where it is mapped
-abbrev pub configured_to : Sizes → List Row → ℕ → Standing → Bool → Rect → Placed
+abbrev pub configured_to : Sizes → List Row → ℕ → Standing → Bool → Rect → Placement
 configured_to sizes own window old asked place =
     if old.mapped
     then effective sizes asked place (taken_besides sizes.border window own)

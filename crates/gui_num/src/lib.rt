@@ -8,7 +8,7 @@ ghost use Rattle.gui_num.specs.Rects.{IsFit, has, on_side, grown, area, common, 
 
 use std::alloc::{AllocError, AllocFailed};
 
-/// Want of memory.
+/// Out of memory.
 #[derive(Clone, Copy, Debug, PartialEq, Eq)]
 pub struct NoMemory;
 

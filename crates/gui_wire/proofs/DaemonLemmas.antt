@@ -10,7 +10,7 @@ use Rattle.std.proofs.Math.Seq.{take-add}
 use Rattle.std.proofs.lemmas.List.{take_at, take_rest}
 use Rattle.gui_wire.specs.declared.Header.{Header}
 use Rattle.gui_wire.specs.Words.{words, word_at, signed_at, unsigned}
-use Rattle.gui_wire.specs.DaemonMessages.{DaemonMessage, Key, Button, Motion, Crossing, Focus, Keymap, Close, ClipAsk, ClipGive, Configure, DumpAck, daemon_kind, daemon_body, daemon_spelling, Just, UpTo, daemon_length, fits_length, daemon_reading, HasDaemonSpelling, IsPlace}
+use Rattle.gui_wire.specs.DaemonMessages.{DaemonMessage, Key, Button, Motion, Crossing, Focus, Keymap, Close, ClipAsk, ClipGive, Configure, DumpAck, daemon_kind, daemon_body, daemon_spelling, Just, UpTo, daemon_length, fits_length, daemon_reading, HasDaemonSpelling, AreSigned}
 use Rattle.gui_wire.specs.Headers.{header_at}
 use Rattle.gui_wire.specs.Beginnings.{Beginning, Whole, Need, Bad, whole_of, beginning_of, beginning, IsInFront}
 use Rattle.gui_wire.proofs.WordLemmas.{AreBytes, AreBytes-drop, AreBytes-take, word_at-fits, numbers_from, words-numbers, words-front}
@@ -201,7 +201,7 @@ numbered n kind body x m bytes size typed spelled fits e =
 back : (k : ℕ) (body : List ℕ) → AreBytes body → unsigned (signed_at k body) ≡ word_at k body
 back k body bytes = of_z-to_z w32 (word_at k body) (word_at-fits k body bytes)
 
-place : (i k : ℕ) (body : List ℕ) → AreBytes body → IsPlace (signed_at i body) (signed_at k body)
+place : (i k : ℕ) (body : List ℕ) → AreBytes body → AreSigned (signed_at i body) (signed_at k body)
 place i k body bytes = (one i, one k)
   where
     one : (k : ℕ) → FitsSigned w32 (signed_at k body)

@@ -8,7 +8,7 @@ use crate::head::header_of;
 use crate::words::{HEAD_LEN, signed_at, word_at};
 use crate::{DaemonMsg, MAX_CLIPBOARD_SIZE, ReadDaemon};
 
-/// What the bytes begin with: a message to an agent, with clipboard bytes lent from them; a whole
+/// What the bytes begin with: a message to an agent, with clipboard bytes borrowed from them; a whole
 /// message of another type, to be skipped; a message that isn't whole yet, or whose header isn't; or
 /// a header with a length that its type can't have, which is found as soon as the header is whole.
 pub fn read_daemon(bytes: &[u8]) -> ReadDaemon<'_>

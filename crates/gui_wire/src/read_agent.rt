@@ -113,8 +113,8 @@ fn message_of(body: &[u8], kind: u32) -> Option<AgentMsg<'_>>
     })
 }
 
-/// The message that a header and its body spell, with texts, bytes and references lent from the
-/// body. The header is refused as `head_check` refuses it: `Kind` for a type that isn't known,
+/// The message that a header and its body spell, with texts, bytes and references borrowed from
+/// the body. The header is refused as `head_check` refuses it: `Kind` for a type that isn't known,
 /// `Length` for a length that a known type can't have.
 pub fn body_of(body: &[u8], header: Header) -> Result<AgentMsg<'_>, WireFault>
     requires { length body.now ≡ header.len }

@@ -1,4 +1,4 @@
-// The references of a dump, lent out of its body.
+// The references of a dump, borrowed from its body.
 ghost use Rattle.std.specs.Prelude.{◌≡◌, ◌<◌, ◌*◌, ◌%◌, ◌^◌, length, slice_index};
 ghost use Rattle.gui_wire.specs.Words.{words, all_words};
 

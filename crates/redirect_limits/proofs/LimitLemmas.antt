@@ -6,12 +6,12 @@ use Rattle.std.proofs.lemmas.Bool.{cond-true}
 use Rattle.gui_num.specs.declared.Rect.{Rect}
 use Rattle.gui_num.specs.Rects.{grown}
 use Rattle.desk_laws.specs.Sizes.{Sizes}
-use Rattle.desk_laws.specs.Override.{Placed as PlacedBy, effective, is_granted, moved_inside}
+use Rattle.desk_laws.specs.Override.{Placement, effective, is_granted, moved_inside}
 use Rattle.redirect_limits.specs.declared.DeskSize.{DeskSize}
 use Rattle.redirect_limits.specs.Limits.{LiesOn, distance}
 
 -- a granted window with its corner at (x, y)
-abbrev pub at : Rect → ℤ → ℤ → PlacedBy
+abbrev pub at : Rect → ℤ → ℤ → Placement
 at rect x y = record { rect = record { x = x; y = y; w = rect.w; h = rect.h }; over = true }
 
 -- the rule where the request is granted

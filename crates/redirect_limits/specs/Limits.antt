@@ -3,7 +3,7 @@ use Rattle.std.specs.Prelude.{ℕ, ℤ, pos, ◌-ℤ◌, ◌≤ℤ◌, unsigned_
 use Rattle.gui_num.specs.declared.Rect.{Rect}
 use Rattle.gui_num.specs.Rects.{right, bottom}
 use Rattle.desk_laws.specs.Sizes.{Sizes}
-use Rattle.desk_laws.specs.Override.{Placed as PlacedBy}
+use Rattle.desk_laws.specs.Override.{Placement}
 use Rattle.redirect_limits.specs.declared.DeskSize.{DeskSize}
 use Rattle.redirect_limits.specs.declared.Placed.{Placed}
 
@@ -12,7 +12,7 @@ abbrev pub desk_of : Sizes → DeskSize
 desk_of sizes = record { width = sizes.width; height = sizes.height; border = sizes.border; percent = sizes.percent }
 
 -- what the rule gives, as the definitions say it
-abbrev pub placed_of : Placed → PlacedBy
+abbrev pub placed_of : Placed → Placement
 placed_of placed = record { rect = placed.rect; over = placed.over }
 
 -- each pixel of the rectangle is on the desktop
