@@ -3,3 +3,5 @@ pub mod WorkedRows
 pub mod WorkedStreams
 pub mod WorkedFrames
 pub mod WorkedGuests
+pub mod WorkedMessages
+pub mod WorkedCauses

@@ -6,4 +6,6 @@ mod law;
 mod worked;
 
 pub use law::{law_ended_session, law_of_others, law_of_pieces, law_of_sound_states};
-pub use worked::{worked_frames, worked_guests, worked_rows, worked_streams};
+pub use worked::{
+    worked_causes, worked_frames, worked_guests, worked_messages, worked_rows, worked_streams,
+};

@@ -3,6 +3,8 @@ ghost use Rattle.run_laws.specs.WorkedRows.{EmptyDesktop, OneWindow, WindowOffTh
 ghost use Rattle.run_laws.specs.WorkedStreams.{OneByteAtATime, WidthOutOfRange, WidthBroughtIntoRange, ReferencePastThePages, DumpAcknowledged, DumpOfAnOldAgent, DumpOfSixteenBits, WrongVersion, EarlyEnd, ClipboardTooLong, WindowLimit};
 ghost use Rattle.run_laws.specs.WorkedFrames.{FrameChangesBetweenLoads, LoadedOnce, ContentsShown, ReportOutsideTheDump, NothingLoadedOutside, ReportOutOfRange, CutAndGrown, TooFewTiles};
 ghost use Rattle.run_laws.specs.WorkedGuests.{TwoWindows, OneGuestEnds, OverrideAreaLimit, OverrideAreasTogether, OverrideMovedInside, FullScreenTold, FullScreenStays, MinimizedIsHidden};
+ghost use Rattle.run_laws.specs.WorkedMessages.{Unmapped, UnmappedTwice, NamesKept, Destroyed, UnknownNames, TitleCut, TitleWhole, ClassAndName, HintsKept, Docked, CursorKept, SetAfterUnset, ThreeFlags, DumpKept, BroughtIntoRange};
+ghost use Rattle.run_laws.specs.WorkedCauses.{LinkLost, TypeNotTaken, LengthOfDestroy, LengthOfDump, OneReferenceMore, NoSuchWindow, RangeBeforeWindow, ClipboardOfNoWindow, NotCreated, DumpOutOfRange, FivePagesOfFour, ReferenceBeforeBudget, VersionTold};
 
 /// The definitions give the small runs that were worked by hand. It does nothing.
 pub fn worked_rows()
@@ -50,4 +52,42 @@ pub fn worked_guests()
     ensures full_screen_told { FullScreenTold }
     ensures full_screen_stays { FullScreenStays }
     ensures minimized_is_hidden { MinimizedIsHidden }
+{}
+
+/// The definitions give what single messages leave of a window, as it was worked by hand. It does
+/// nothing.
+pub fn worked_messages()
+    ensures unmapped { Unmapped }
+    ensures unmapped_twice { UnmappedTwice }
+    ensures names_kept { NamesKept }
+    ensures destroyed { Destroyed }
+    ensures unknown_names { UnknownNames }
+    ensures title_cut { TitleCut }
+    ensures title_whole { TitleWhole }
+    ensures class_and_name { ClassAndName }
+    ensures hints_kept { HintsKept }
+    ensures docked { Docked }
+    ensures cursor_kept { CursorKept }
+    ensures set_after_unset { SetAfterUnset }
+    ensures three_flags { ThreeFlags }
+    ensures dump_kept { DumpKept }
+    ensures brought_into_range { BroughtIntoRange }
+{}
+
+/// The definitions give the ends of sessions, one for each cause, that were worked by hand. It does
+/// nothing.
+pub fn worked_causes()
+    ensures link_lost { LinkLost }
+    ensures type_not_taken { TypeNotTaken }
+    ensures length_of_destroy { LengthOfDestroy }
+    ensures length_of_dump { LengthOfDump }
+    ensures one_reference_more { OneReferenceMore }
+    ensures no_such_window { NoSuchWindow }
+    ensures range_before_window { RangeBeforeWindow }
+    ensures clipboard_of_no_window { ClipboardOfNoWindow }
+    ensures not_created { NotCreated }
+    ensures dump_out_of_range { DumpOutOfRange }
+    ensures five_pages_of_four { FivePagesOfFour }
+    ensures reference_before_budget { ReferenceBeforeBudget }
+    ensures version_told { VersionTold }
 {}
