@@ -1,4 +1,4 @@
-// A picture of three panes, worked by hand.
+// A hand-computed picture of three panes.
 ghost use Rattle.std.specs.Prelude.{◌≡◌, ◌<◌, ◌≤◌, true, pos, negsuc, ◌≤ℤ◌};
 ghost use Rattle.gui_num.specs.declared.Point.{Point};
 ghost use Rattle.gui_num.specs.Rects.{IsFit, has};

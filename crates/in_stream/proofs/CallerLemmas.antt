@@ -1,5 +1,5 @@
 -- What a caller may conclude from what a receive buffer shows: how the cut of the bytes begins, and
--- that the buffer may let the unit go.
+-- that the buffer may drop the unit.
 use Rattle.std.proofs.Common.{◌≡◌, ℕ, ◌≤◌, Bool, true, false, nat_lt, nat_le, if◌then◌else◌, List, ◌++◌, length, take, drop, Option, Some, None, refl, sym, ◌∙◌, ap, subst, ◌⊎◌, inl, inr, arith}
 use Rattle.std.specs.Prelude.{◌&&◌, replicate}
 use Rattle.std.proofs.lemmas.Bool.Decides.{nat_tests}
@@ -161,7 +161,7 @@ shown-skipped r h e =
     let m = message_shown (front_by head_fault true r) r h (Skipped h) refl e refl tt in
     (m, skipped_over (is_passed_over h) h m.body m.as_shown)
 
--- the buffer may let go what it shows
+-- the buffer may drop what it shows
 pub has_unit-whole : (s : Received) (r : List ℕ) (h : Header) (b : List ℕ) → s.greeted ≡ true → StandsFor s r → shown r ≡ Whole h b → HasUnit s
 has_unit-whole s r h b g stands e =
     let m = shown-whole r h b e in

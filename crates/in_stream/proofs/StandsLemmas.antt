@@ -82,7 +82,7 @@ stands-more s r more sound h = elim (none_or_more s.skipped) [
       }
 ]
 
--- ---- units let go
+-- ---- dropped units
 
 word-behind : (f : Faults) (s : List ℕ) (u : StreamUnit) (r : List ℕ) → front_by f false s ≡ Takes u r → (4 ≤ length s) × (r ≡ drop 4 s)
 word-behind f s u r e = grind (arith, nat_tests)

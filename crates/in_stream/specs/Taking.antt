@@ -1,4 +1,4 @@
--- How a receive buffer takes bytes and lets units go.
+-- How a receive buffer takes bytes and drops units.
 use Rattle.std.specs.Prelude.{◌≡◌, ℕ, ◌+◌, ◌-◌, Bool, ◌&&◌, nat_le, List, length, if◌then◌else◌}
 use Rattle.gui_wire.specs.Headers.{header_at}
 use Rattle.desk_laws.specs.Stream.{StreamUnit, Takes, front_by, head_fault}
@@ -30,7 +30,7 @@ pub record HasUnit (stream : Received) : Type 0 where
   pub stands : StandsFor stream rest
   pub takes : front_by head_fault stream.greeted rest ≡ Takes unit behind
 
--- the unit at the front is let go: afterwards the buffer stands for what is behind it
+-- the unit at the front is dropped: afterwards the buffer stands for what is behind it
 abbrev pub DropsUnit : Received → Received → Type 0
 DropsUnit old new =
     (rest : List ℕ) (unit : StreamUnit) (behind : List ℕ) → StandsFor old rest

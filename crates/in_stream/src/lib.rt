@@ -2,7 +2,7 @@
 //! whole and one at a time, as the Qubes GUI protocol cuts them: a version word of four bytes, then
 //! messages of a header and a body.
 //!
-//! All memory is taken when a buffer is made. What is lent is lent out of the buffer, uncopied.
+//! All memory is taken when a buffer is made. What is shown is borrowed from the buffer, uncopied.
 #![tactic(auto)]
 
 mod buffer;
@@ -13,7 +13,7 @@ mod tests;
 use gui_wire::{Header, WireFault};
 pub use stream::InStream;
 
-/// What the bytes after the version word begin with. `body` is lent out of the buffer. `left` and
+/// What the bytes after the version word begin with. `body` is borrowed from the buffer. `left` and
 /// `more` count bytes.
 #[derive(Clone, Copy)]
 pub enum Front<'a> {

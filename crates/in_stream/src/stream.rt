@@ -24,7 +24,7 @@ const LONGEST_CLIP_KEPT: u32 = 65_000;
 
 const LONGEST_CLIP: u32 = 256_000;
 
-/// The bytes of one guest that were taken and not yet let go. It stands for a rest of the guest's
+/// The bytes of one guest that were taken and not yet dropped. It stands for a rest of the guest's
 /// bytes: what it holds, and in the place of a clipboard body that isn't kept any bytes, as many as
 /// were passed over.
 #[derive(Drop)]
@@ -48,7 +48,7 @@ impl Model for InStream {
 
 impl InStream {
     /// A buffer that holds nothing, before the version word. It takes memory for the longest message,
-    /// 393,244 bytes. `NoMemory` is want of that memory; no other call takes any.
+    /// 393,244 bytes: `NoMemory` where there is none for it. No other call takes any.
     pub fn new(alloc: Global) -> Result<InStream, NoMemory>
         ensures fresh { IfOk result (λ s. s.greeted ≡ false) }
         ensures stands { IfOk result (λ s. StandsFor s []) }
@@ -62,7 +62,7 @@ impl InStream {
 
     /// Takes bytes from the front of `piece`, and answers how many: as many as are still to be passed
     /// over and then fit. At least one byte of a piece that isn't empty is taken where no whole unit
-    /// is there: where `front` answers Need or Skipping, and before the version word was let go where
+    /// is there: where `front` answers Need or Skipping, and before the version word was dropped where
     /// `word` answers None.
     pub fn push(&mut self, piece: &[u8]) -> usize
         ensures within { result ≤ length piece.now }
@@ -75,7 +75,7 @@ impl InStream {
         skipped + self.buffer.append(&piece[skipped..])
     }
 
-    /// Whether the version word was let go.
+    /// Whether the version word was dropped.
     pub fn greeted(&self) -> bool
         ensures { result ≡ self.now.greeted }
     {
@@ -93,7 +93,7 @@ impl InStream {
         Some(u32::from_le_bytes([held[0], held[1], held[2], held[3]]))
     }
 
-    /// Lets the version word go. It is there, and wasn't let go before.
+    /// Drops the version word. It is there, and wasn't dropped before.
     pub fn drop_word(&mut self)
         requires first { self.old.greeted ≡ false }
         requires unit { HasUnit self.old }
@@ -128,7 +128,7 @@ impl InStream {
         message_at(header, &held[HEADER_LEN..], self.skipped)
     }
 
-    /// Lets the message at the front go. `front` is Whole or Skipped.
+    /// Drops the message at the front. `front` is Whole or Skipped.
     pub fn drop_front(&mut self)
         requires greeted { self.old.greeted ≡ true }
         requires unit { HasUnit self.old }

@@ -1,4 +1,4 @@
-// Bytes that were worked by hand from the tables of the protocol.
+// Hand-computed bytes, from the tables of the protocol.
 ghost use Rattle.std.specs.Prelude.{◌≡◌, true, false, IfOk, IfSome};
 
 use super::*;
@@ -59,14 +59,14 @@ fn take_word(stream: &mut InStream) -> Option<u32>
     Some(word)
 }
 
-// Whether this whole message stands at the front, which is then let go.
+// Whether this whole message stands at the front, which is then dropped.
 fn takes_message(stream: &mut InStream, kind: u32, body: &[u8]) -> bool
     requires { stream.old.greeted ≡ true }
     ensures { stream.new.greeted ≡ true }
 {
     match stream.front() {
-        Front::Whole { header, body: lent } => {
-            let same = header.kind == kind && header.window == 1 && lent == body;
+        Front::Whole { header, body: shown } => {
+            let same = header.kind == kind && header.window == 1 && shown == body;
             stream.drop_front();
             same
         }
@@ -74,7 +74,7 @@ fn takes_message(stream: &mut InStream, kind: u32, body: &[u8]) -> bool
     }
 }
 
-// Whether a skipped body of this length stands at the front, which is then let go.
+// Whether a skipped body of this length stands at the front, which is then dropped.
 fn takes_skipped(stream: &mut InStream, len: u32) -> bool
     requires { stream.old.greeted ≡ true }
     ensures { stream.new.greeted ≡ true }

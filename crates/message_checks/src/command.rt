@@ -10,7 +10,7 @@ use gui_wire::{AgentMsg, Refs};
 
 /// A message that was checked. A `rect` is its place and size, in pixels from the desktop's upper
 /// left corner, in range: x and y from -32768 to 32767, a width from 1 to 16384, a height from 1 to
-/// 6144. All other fields are those of the message; texts, clipboard bytes and references are lent.
+/// 6144. All other fields are those of the message; texts, clipboard bytes and references are borrowed.
 #[derive(Clone, Copy)]
 pub enum Command<'a> {
     Create {

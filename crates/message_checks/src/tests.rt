@@ -1,4 +1,4 @@
-// Messages whose causes were worked by hand. A page has 4096 bytes, which are 1024 pixels.
+// Messages with hand-computed causes. A page has 4096 bytes, which are 1024 pixels.
 ghost use Rattle.std.specs.Prelude.{◌≡◌, ◌≤◌, ◌%◌, [], ◌∷◌, length};
 ghost use Rattle.message_checks.specs.TestRows.{row_of};
 
