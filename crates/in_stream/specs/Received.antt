@@ -1,9 +1,10 @@
 -- What a receive buffer holds, and the rests of a guest's bytes that it stands for.
-use Rattle.std.specs.Prelude.{◌≡◌, ℕ, Bool, List, ◌++◌, length, take, drop}
+use Rattle.std.specs.Prelude.{◌≡◌, ℕ, ◌+◌, Bool, List, ◌++◌, length, take, drop}
+use Rattle.gui_wire.specs.declared.limits.TheConstants.{MAX_DUMP_LEN}
 
 -- the most bytes that are held: those of the longest message
 abbrev pub longest : ℕ
-longest = 393244
+longest = 12 + MAX_DUMP_LEN
 
 -- what a receive buffer is seen as
 pub record Received : Type 0 where

@@ -1,5 +1,7 @@
 -- What a receive buffer shows of the bytes that it stands for.
 use Rattle.std.specs.Prelude.{ℕ, ◌+◌, ◌-◌, Bool, true, false, ◌&&◌, ◌==◌, nat_lt, nat_le, List, length, Option, Some, None, if◌then◌else◌}
+use Rattle.gui_wire.specs.declared.limits.TheConstants.{MAX_CLIPBOARD_SIZE}
+use Rattle.desk_laws.specs.declared.limits.TheConstants.{MAX_SKIPPED_CLIPBOARD}
 use Rattle.gui_wire.specs.declared.Header.{Header}
 use Rattle.gui_wire.specs.declared.WireFault.{WireFault}
 use Rattle.gui_wire.specs.declared.WireFault.TheVariants.{Kind, Length}
@@ -20,7 +22,7 @@ pub data Shown : Type 0 where
 
 -- whether a header announces clipboard data whose body isn't kept, and is passed over
 abbrev pub is_passed_over : Header → Bool
-is_passed_over header = header.kind == 140 && (nat_lt 65000 header.len && nat_le header.len 256000)
+is_passed_over header = header.kind == 140 && (nat_lt MAX_CLIPBOARD_SIZE header.len && nat_le header.len MAX_SKIPPED_CLIPBOARD)
 
 -- how many bytes the header, or the message that it begins, lacks
 abbrev pub lacking : List ℕ → ℕ

@@ -2,13 +2,14 @@
 ghost use Rattle.std.specs.Prelude.{◌≡◌, ℕ, ◌+◌, ◌-◌, ◌≤◌, List, [], ◌++◌, length, min, take, drop, IfOk, vec_len, vec_capacity};
 ghost use Rattle.in_stream.specs.Received.{longest};
 
+use crate::HEADER_LEN;
 use gui_num::NoMemory;
+use gui_wire::MAX_DUMP_LEN;
 use std::alloc::Global;
 use std::marker::Model;
 
-// The most bytes that are held: those of the longest message, a header of 12 bytes, a dump's head of
-// 16 and 98,304 references of four.
-const LONGEST: usize = 393_244;
+// The most bytes that are held: those of the longest message, a dump.
+const LONGEST: usize = HEADER_LEN + MAX_DUMP_LEN as usize;
 
 // What is held stands in `bytes` from `start` on. Contracts see it alone.
 #[derive(Drop)]

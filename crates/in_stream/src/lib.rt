@@ -13,6 +13,9 @@ mod tests;
 use gui_wire::{Header, WireFault};
 pub use stream::InStream;
 
+// The bytes of a message's header.
+const HEADER_LEN: usize = 12;
+
 /// What the bytes after the version word begin with. `body` is borrowed from the buffer. `left` and
 /// `more` count bytes.
 #[derive(Clone, Copy)]

@@ -7,22 +7,19 @@ ghost use Rattle.in_stream.specs.Shown.{is_passed_over, shown, word_shown};
 ghost use Rattle.in_stream.specs.Seen.{seen};
 ghost use Rattle.in_stream.specs.Taking.{room, to_skip, kept, HasUnit, DropsUnit};
 
-use crate::Front;
 use crate::buffer::Buffer;
+use crate::{Front, HEADER_LEN};
+use desk_laws::MAX_SKIPPED_CLIPBOARD;
 use gui_num::NoMemory;
-use gui_wire::{Header, head_check, header_of};
+use gui_wire::{Header, MAX_CLIPBOARD_SIZE, head_check, header_of};
 use std::alloc::Global;
 use std::marker::Model;
 
+// The bytes of the version word.
 const WORD_LEN: usize = 4;
 
-const HEADER_LEN: usize = 12;
-
+// The type of clipboard data.
 const CLIPBOARD_DATA: u32 = 140;
-
-const LONGEST_CLIP_KEPT: u32 = 65_000;
-
-const LONGEST_CLIP: u32 = 256_000;
 
 /// The bytes of one guest that were taken and not yet dropped. It stands for a rest of the guest's
 /// bytes: what it holds, and in the place of a clipboard body that isn't kept any bytes, as many as
@@ -47,8 +44,8 @@ impl Model for InStream {
 }
 
 impl InStream {
-    /// A buffer that holds nothing, before the version word. It takes memory for the longest message,
-    /// 393,244 bytes: `NoMemory` where there is none for it. No other call takes any.
+    /// A buffer that holds nothing, before the version word. It takes memory for the longest message:
+    /// `NoMemory` where there is none for it. No other call takes any.
     pub fn new(alloc: Global) -> Result<InStream, NoMemory>
         ensures fresh { IfOk result (λ s. s.greeted ≡ false) }
         ensures stands { IfOk result (λ s. StandsFor s []) }
@@ -122,7 +119,7 @@ impl InStream {
         if let Err(fault) = head_check(header) {
             return Front::Bad { header, fault };
         }
-        if header.kind == CLIPBOARD_DATA && header.len > LONGEST_CLIP {
+        if header.kind == CLIPBOARD_DATA && header.len > MAX_SKIPPED_CLIPBOARD {
             return Front::ClipLong { header };
         }
         message_at(header, &held[HEADER_LEN..], self.skipped)
@@ -171,7 +168,9 @@ impl InStream {
 fn is_passed_over(header: Header) -> bool
     ensures { result ≡ is_passed_over header }
 {
-    header.kind == CLIPBOARD_DATA && header.len > LONGEST_CLIP_KEPT && header.len <= LONGEST_CLIP
+    header.kind == CLIPBOARD_DATA
+        && header.len > MAX_CLIPBOARD_SIZE
+        && header.len <= MAX_SKIPPED_CLIPBOARD
 }
 
 // What there is of a message whose header has no fault: `skipped` bytes of its body were passed over,

@@ -65,7 +65,10 @@ fn takes_message(stream: &mut InStream, kind: u32, body: &[u8]) -> bool
     ensures { stream.new.greeted ≡ true }
 {
     match stream.front() {
-        Front::Whole { header, body: shown } => {
+        Front::Whole {
+            header,
+            body: shown,
+        } => {
             let same = header.kind == kind && header.window == 1 && shown == body;
             stream.drop_front();
             same

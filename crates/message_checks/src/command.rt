@@ -6,7 +6,7 @@ ghost use Rattle.std.specs.Int.{w32, cast_signed};
 ghost use Rattle.message_checks.specs.Commands.{IsCommandOf};
 
 use gui_num::Rect;
-use gui_wire::{AgentMsg, Refs};
+use gui_wire::{AgentMsg, MAX_WINDOW_HEIGHT, MAX_WINDOW_WIDTH, Refs};
 
 /// A message that was checked. A `rect` is its place and size, in pixels from the desktop's upper
 /// left corner, in range: x and y from -32768 to 32767, a width from 1 to 16384, a height from 1 to
@@ -161,11 +161,11 @@ fn place_of(n: u32) -> i32
 fn width_of(n: u32) -> u32
     ensures { result ≡ width_in_range n }
 {
-    n.min(16384).max(1)
+    n.min(MAX_WINDOW_WIDTH).max(1)
 }
 
 fn height_of(n: u32) -> u32
     ensures { result ≡ height_in_range n }
 {
-    n.min(6144).max(1)
+    n.min(MAX_WINDOW_HEIGHT).max(1)
 }

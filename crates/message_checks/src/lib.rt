@@ -12,6 +12,7 @@ ghost use Rattle.std.specs.Prelude.{◌≡◌, ◌≤◌, Some, None, IfOk, Matc
 ghost use Rattle.gui_wire.specs.Seen.{message};
 ghost use Rattle.desk_laws.specs.Effects.{refs_besides};
 ghost use Rattle.desk_laws.specs.Checks.{first_cause};
+ghost use Rattle.desk_laws.specs.declared.limits.TheConstants.{MAX_PAGES};
 ghost use Rattle.message_checks.specs.Commands.{IsCommandOf};
 
 pub use command::Command;
@@ -43,7 +44,7 @@ pub fn check<'a, I: Ids>(
     limits: &Limits,
     ids: &I,
 ) -> Result<Command<'a>, Cause>
-    requires pages { limits.now.pages ≤ 16384 }
+    requires pages { limits.now.pages ≤ MAX_PAGES }
     requires held { refs_besides header.window (I.rows ids.now) ≤ limits.now.pages }
     ensures first { MatchResult result
         (λ _. first_cause limits.now.pages (I.rows ids.now) header (message msg.now) ≡ None)

@@ -4,8 +4,8 @@ ghost use Rattle.gui_wire.specs.Seen.{message};
 ghost use Rattle.desk_laws.specs.Effects as effects;
 ghost use Rattle.desk_laws.specs.Effects.{first_of_causes};
 
-use desk_laws::Cause;
-use gui_wire::{AgentMsg, Header};
+use desk_laws::{Cause, PAGE_BYTES};
+use gui_wire::{AgentMsg, Header, MAX_WINDOW_HEIGHT, MAX_WINDOW_WIDTH};
 
 /// The first field out of its range. A dump whose references don't fit its size comes last.
 pub fn range_fault(msg: &AgentMsg<'_>, header: Header) -> Option<Cause>
@@ -67,29 +67,29 @@ fn area_fault(x: u32, y: u32, width: u32, height: u32) -> Option<Cause>
         .or(size_fault(width, height))
 }
 
-// How many pages of 4096 bytes the pixels of a window take, of four bytes each.
+// How many pages the pixels of a window take, of four bytes each.
 fn pages_for(width: u32, height: u32) -> u32
-    requires width { width ≤ 16384 }
-    requires height { height ≤ 6144 }
+    requires width { width ≤ MAX_WINDOW_WIDTH }
+    requires height { height ≤ MAX_WINDOW_HEIGHT }
     ensures { result ≡ effects.pages_for width height }
 {
-    (4 * width * height + 4095) / 4096
+    (4 * width * height + (PAGE_BYTES - 1)) / PAGE_BYTES
 }
 
 fn dump_fault(kind: u32, width: u32, height: u32, bpp: u32, refs: u32, len: u32) -> Option<Cause>
     ensures { result ≡ first_of_causes (effects.out_of (effects.isnt_zero kind) 1 kind
-        ∷ effects.out_of (width == 0 || nat_lt 16384 width) 2 width
-        ∷ effects.out_of (height == 0 || nat_lt 6144 height) 3 height
+        ∷ effects.out_of (width == 0 || nat_lt MAX_WINDOW_WIDTH width) 2 width
+        ∷ effects.out_of (height == 0 || nat_lt MAX_WINDOW_HEIGHT height) 3 height
         ∷ effects.out_of (not (bpp == 24 || bpp == 32)) 4 bpp
         ∷ effects.wrong_count refs (effects.pages_for width height) len ∷ []) }
 {
     if kind != 0 {
         return Some(Cause::BadRange { a: 1, b: kind });
     }
-    if width == 0 || width > 16384 {
+    if width == 0 || width > MAX_WINDOW_WIDTH {
         return Some(Cause::BadRange { a: 2, b: width });
     }
-    if height == 0 || height > 6144 {
+    if height == 0 || height > MAX_WINDOW_HEIGHT {
         return Some(Cause::BadRange { a: 3, b: height });
     }
     if bpp != 24 && bpp != 32 {

@@ -5,16 +5,14 @@ ghost use Rattle.desk_laws.specs.Rows.{row_with};
 ghost use Rattle.desk_laws.specs.Effects as effects;
 ghost use Rattle.desk_laws.specs.Effects.{first_of_causes, refs_besides};
 ghost use Rattle.desk_laws.specs.Checks as checks;
+ghost use Rattle.desk_laws.specs.declared.limits.TheConstants.{MAX_PAGES};
 
-use desk_laws::{Cause, Ids};
+use desk_laws::{Cause, Ids, MAX_WINDOWS};
 use gui_wire::{AgentMsg, Refs};
-
-// The windows that a guest may have.
-const WINDOWS: u32 = 1024;
 
 /// The first thing that is wrong with the message among its guest's windows.
 pub fn rows_fault<I: Ids>(msg: &AgentMsg<'_>, window: u32, pages: u32, ids: &I) -> Option<Cause>
-    requires pages { pages ≤ 16384 }
+    requires pages { pages ≤ MAX_PAGES }
     requires held { refs_besides window (I.rows ids.now) ≤ pages }
     ensures { result ≡ checks.rows_fault pages (I.rows ids.now) window (message msg.now) }
 {
@@ -43,12 +41,12 @@ fn create_fault<I: Ids>(window: u32, ids: &I) -> Option<Cause>
     if ids.known(window) {
         return Some(Cause::WindowExists { a: window, b: 0 });
     }
-    if ids.count() < WINDOWS {
+    if ids.count() < MAX_WINDOWS {
         return None;
     }
     Some(Cause::TooManyWindows {
         a: window,
-        b: WINDOWS,
+        b: MAX_WINDOWS,
     })
 }
 
@@ -77,7 +75,7 @@ fn over_budget(need: u32, pages: u32) -> Option<Cause>
 }
 
 fn dump_fault<I: Ids>(window: u32, refs: &Refs<'_>, pages: u32, ids: &I) -> Option<Cause>
-    requires pages { pages ≤ 16384 }
+    requires pages { pages ≤ MAX_PAGES }
     requires held { refs_besides window (I.rows ids.now) ≤ pages }
     ensures { result ≡ first_of_causes (effects.unknown (row_with window (I.rows ids.now)) window
         ∷ effects.bad_ref pages (references refs.now)

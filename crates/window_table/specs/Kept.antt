@@ -3,6 +3,7 @@
 use Rattle.std.specs.Prelude.{ℕ, ◌≡◌, ◌<◌, ◌≤◌, Bool, true, false, ◌==◌, List, [], length, map, sum_by, Option, Some, None, is_some, slice_index_or, pos}
 use Rattle.std.specs.List.{list_any}
 use Rattle.slab.specs.Slab.{Slab, get, slab_len}
+use Rattle.desk_laws.specs.declared.limits.TheConstants.{MAX_WINDOWS}
 use Rattle.desk_laws.specs.Rows.{DumpOf}
 use Rattle.desk_laws.specs.Effects.{name_without}
 use Rattle.window_table.specs.declared.pane.Pane.{Pane}
@@ -62,12 +63,12 @@ forgets_held window held = record held {
 
 -- the slots in order each hold a window, no two the same; a slot without a dump has no references
 pub record IsKept (held : Slab Held) (lists : List (List ℕ)) (order : List ℕ) : Type 0 where
-  pub slots : length lists ≡ 1024
-  pub capacity : held.capacity ≡ 1024
+  pub slots : length lists ≡ MAX_WINDOWS
+  pub capacity : held.capacity ≡ MAX_WINDOWS
   pub each : (slot : ℕ) → among slot order ≡ true → is_some (get held slot) ≡ true
-  pub below : (slot : ℕ) → among slot order ≡ true → slot < 1024
+  pub below : (slot : ℕ) → among slot order ≡ true → slot < MAX_WINDOWS
   pub count : slab_len held ≡ length order
-  pub few : length order ≤ 1024
+  pub few : length order ≤ MAX_WINDOWS
   pub unused : (slot : ℕ) → size_in (get held slot) ≡ None → refs_kept lists slot ≡ []
   pub together : sum_by length lists ≡ sum_by (λ slot. length (refs_kept lists slot)) order
   pub apart : AreApart (entries_of held lists order)

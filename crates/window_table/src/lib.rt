@@ -1,4 +1,4 @@
-//! The windows of one guest, at most 1024. All memory that a table ever needs is taken as it is made.
+//! The windows of one guest. All memory that a table ever needs is taken as it is made.
 #![tactic(auto)]
 
 mod held;

@@ -10,17 +10,14 @@ use crate::held::{Held, forget, slot_with};
 use crate::ref_lists::RefLists;
 use crate::{DumpSize, Pane};
 use arrayvec::ArrayVec;
-use desk_laws::Ids;
+use desk_laws::{Ids, MAX_WINDOWS};
 use gui_num::{NoMemory, Rect};
 use gui_wire::Refs;
 use slab::Slab;
 use std::alloc::Global;
 use std::marker::Model;
 
-// The windows that a guest may have.
-const WINDOWS: usize = 1024;
-
-/// The windows of one guest, each at a slot from 0 to 1023: its id, its dump and its pane. No two
+/// The windows of one guest, each at a slot below `MAX_WINDOWS`: its id, its dump and its pane. No two
 /// have the same id. They stand in the order in which they were added.
 #[derive(Drop)]
 pub struct Table {
@@ -31,6 +28,7 @@ pub struct Table {
 
 impl Model for Table {
     ghost use Rattle.std.specs.Prelude.{◌≡◌, ◌≤◌, length, sum_by, vec_capacity};
+    ghost use Rattle.desk_laws.specs.declared.limits.TheConstants.{MAX_WINDOWS};
     ghost use Rattle.window_table.specs.Entries.{TableView};
     ghost use Rattle.window_table.specs.Kept.{entries_of, IsKept};
 
@@ -38,31 +36,31 @@ impl Model for Table {
 
     ghost view = { λ t. record { pages = t.refs.pages; entries = entries_of t.held t.refs.lists t.order.items } };
 
-    ghost invariant = { λ t. IsKept t.held t.refs.lists t.order.items × ((vec_capacity t.order ≡ 1024) × (sum_by length t.refs.lists ≤ t.refs.pages)) };
+    ghost invariant = { λ t. IsKept t.held t.refs.lists t.order.items × ((vec_capacity t.order ≡ MAX_WINDOWS) × (sum_by length t.refs.lists ≤ t.refs.pages)) };
 }
 
 impl Table {
     /// An empty table of windows that may have `pages` page references together. `NoMemory` where
-    /// there is no memory for 1024 windows and so many references; no later call takes any.
+    /// there is no memory for `MAX_WINDOWS` windows and so many references; no later call takes any.
     pub fn new(alloc: Global, pages: u32) -> Result<Table, NoMemory>
         ensures { IfOk result (λ table. table ≡ record { pages = pages; entries = [] }) }
     {
-        let held = Slab::with_capacity(alloc, WINDOWS)?;
-        if held.capacity() != WINDOWS {
+        let held = Slab::with_capacity(alloc, MAX_WINDOWS as usize)?;
+        if held.capacity() != MAX_WINDOWS as usize {
             return Err(NoMemory);
         }
-        let refs = RefLists::new(alloc, WINDOWS, pages)?;
-        let order = Vec::with_capacity(alloc, WINDOWS)?;
+        let refs = RefLists::new(alloc, MAX_WINDOWS as usize, pages)?;
+        let order = Vec::with_capacity(alloc, MAX_WINDOWS as usize)?;
         Ok(Table { held, refs, order })
     }
 
-    /// Adds a window that the table doesn't have, while there are fewer than 1024, as the last, and
+    /// Adds a window that the table doesn't have, while there are fewer than `MAX_WINDOWS`, as the last, and
     /// answers its slot. It is not mapped and has no dump.
     pub fn add(&mut self, window: u32, place: Rect, parent: u32, asked: bool) -> u32
         requires unknown { is_some (entry_with window self.old.entries) ≡ false }
-        requires room { length self.old.entries < 1024 }
+        requires room { length self.old.entries < MAX_WINDOWS }
         ensures vacant { is_some (entry_at result self.old.entries) ≡ false }
-        ensures below { result < 1024 }
+        ensures below { result < MAX_WINDOWS }
         ensures added { self.new ≡ record self.old { entries = self.old.entries ++ new_entry result window place parent asked ∷ [] } }
     {
         let held = Held {
@@ -81,17 +79,17 @@ impl Table {
         ensures known { is_some (entry_with window self.now.entries) ≡ is_some result }
         ensures same { IfSome result (λ slot. entry_at slot self.now.entries ≡ entry_with window self.now.entries) }
         ensures apart { AreApart self.now.entries }
-        ensures few { length self.now.entries ≤ 1024 }
+        ensures few { length self.now.entries ≤ MAX_WINDOWS }
         ensures held { (other : ℕ) → effects.refs_besides other (plain_rows self.now.entries) ≤ self.now.pages }
     {
         slot_with(&self.held, &self.order, window)
     }
 
-    /// How many windows there are, at most 1024.
+    /// How many windows there are, at most `MAX_WINDOWS`.
     pub fn len(&self) -> u32
         ensures count { result ≡ length self.now.entries }
         ensures apart { AreApart self.now.entries }
-        ensures few { length self.now.entries ≤ 1024 }
+        ensures few { length self.now.entries ≤ MAX_WINDOWS }
     {
         self.order.len() as u32
     }

@@ -2,7 +2,7 @@
 ghost use Rattle.std.specs.Prelude.{◌≡◌};
 
 use super::*;
-use desk_laws::Ids;
+use desk_laws::{Ids, MAX_WINDOWS};
 use gui_num::Rect;
 use gui_wire::Refs;
 use std::test::Fail;
@@ -18,7 +18,7 @@ const PLACE: Rect = Rect {
 fn put(table: &mut Table, window: u32, parent: u32) -> Option<u32>
     ensures { table.new.pages ≡ table.old.pages }
 {
-    if table.slot_of(window).is_some() || table.len() > 1023 {
+    if table.slot_of(window).is_some() || table.len() >= MAX_WINDOWS {
         return None;
     }
     Some(table.add(window, PLACE, parent, true))

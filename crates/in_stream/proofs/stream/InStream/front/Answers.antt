@@ -5,7 +5,7 @@ use Rattle.in_stream.specs.Received.{Received, StandsFor}
 use Rattle.in_stream.proofs.StandsLemmas.{stands-length, stands-header, stands-behind}
 use Rattle.in_stream.proofs.FrontLemmas.{front-short, front-bad, front-clip_long, faultless}
 use Rattle.in_stream.proofs.stream.InStream.front.Goals as goal
-use Rattle.in_stream.proofs.stream.InStream.front.Goals.{else-header-eq-CLIPBOARD_DATA-via-then-header-eq-CLIPBOARD_DATA+else-header-gt-LONGEST_CLIP, else-header-eq-CLIPBOARD_DATA-via-else-header-eq-CLIPBOARD_DATA}
+use Rattle.in_stream.proofs.stream.InStream.front.Goals.{else-header-eq-CLIPBOARD_DATA-via-then-header-eq-CLIPBOARD_DATA+else-header-gt-MAX_SKIPPED_CLIPBOARD, else-header-eq-CLIPBOARD_DATA-via-else-header-eq-CLIPBOARD_DATA}
 
 pub returns-then-held-lt-HEADER_LEN : goal.returns-then-held-lt-HEADER_LEN
 returns-then-held-lt-HEADER_LEN c = λ r h.
@@ -21,13 +21,13 @@ returns-in-Err c = λ r h.
     let e = c.header_of-header.ensures ∙ ap header_at c.bytes-held.ensures.is in
     rw e (front-bad s r c.in-Err.fault stands long (ap head_result (sym e) ∙ sym c.head_check.ensures ∙ c.in-Err.is))
 
-pub returns-then-header-gt-LONGEST_CLIP : goal.returns-then-header-gt-LONGEST_CLIP
-returns-then-header-gt-LONGEST_CLIP c = λ r h.
+pub returns-then-header-gt-MAX_SKIPPED_CLIPBOARD : goal.returns-then-header-gt-MAX_SKIPPED_CLIPBOARD
+returns-then-header-gt-MAX_SKIPPED_CLIPBOARD c = λ r h.
     let s : Received = record { greeted = c.self.inside.greeted; held = c.self.inside.buffer; skipped = c.self.inside.skipped } in
     let stands : StandsFor s r = rw c.self.view_is h in
     let long : 12 ≤ length s.held = rw c.bytes-held.ensures.is at c.if-held-lt-HEADER_LEN.false in
     let e = c.header_of-header.ensures ∙ ap header_at c.bytes-held.ensures.is in
-    rw e (front-clip_long s r stands long (rw e at c.if-header-eq-CLIPBOARD_DATA.true) (rw e at c.if-header-gt-LONGEST_CLIP.true))
+    rw e (front-clip_long s r stands long (rw e at c.if-header-eq-CLIPBOARD_DATA.true) (rw e at c.if-header-gt-MAX_SKIPPED_CLIPBOARD.true))
 
 pub returns : goal.returns
 returns c = λ r h.
@@ -37,7 +37,7 @@ returns c = λ r h.
     let e = c.header_of-header.ensures ∙ ap header_at c.bytes-held.ensures.is in
     let limit : c.header_of-header.result.kind ≡ 140 → c.header_of-header.result.len ≤ 256000 =
     λ clip. elim c.else-header-eq-CLIPBOARD_DATA.branch [
-      | else-header-eq-CLIPBOARD_DATA-via-then-header-eq-CLIPBOARD_DATA+else-header-gt-LONGEST_CLIP w ↦ w.if-header-gt-LONGEST_CLIP.false
+      | else-header-eq-CLIPBOARD_DATA-via-then-header-eq-CLIPBOARD_DATA+else-header-gt-MAX_SKIPPED_CLIPBOARD w ↦ w.if-header-gt-MAX_SKIPPED_CLIPBOARD.false
       | else-header-eq-CLIPBOARD_DATA-via-else-header-eq-CLIPBOARD_DATA w ↦ absurd (w.if-header-eq-CLIPBOARD_DATA.false clip)
     ] in
     c.message_at.ensures r stands.passed (omega (arith, stands-length s r stands)) (stands-header s r long stands ∙ sym e)

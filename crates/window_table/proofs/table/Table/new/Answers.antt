@@ -9,6 +9,6 @@ invariant_of-result c =
     let lists : c.in_ok-refs.refs.lists ≡ no_lists 1024 = ap (λ r. r.lists) c.in_ok-refs.ensures in
     let none : c.in_ok-order.order.items ≡ [] = c.in_ok-order.ensures.items in (
       subst (λ o. IsKept c.in_ok-held.held c.in_ok-refs.refs.lists o) (sym none)
-          (kept-none c.in_ok-held.held c.in_ok-refs.refs.lists c.in_ok-held.ensures.empty (omega (arith, c.capacity.ensures.value, c.if-capacity-ne-WINDOWS.false)) lists),
+          (kept-none c.in_ok-held.held c.in_ok-refs.refs.lists c.in_ok-held.ensures.empty (omega (arith, c.capacity.ensures.value, c.if-capacity.false)) lists),
       (c.in_ok-order.ensures.exact, omega (arith, ap (λ ls. sum_by length ls) lists, zeros-none 1024)),
     )
