@@ -1,5 +1,6 @@
 -- What each call does to the contents of all slots, pixel by pixel, and to which tiles are held.
 use Rattle.std.specs.Prelude.{ℕ, ◌≡◌, ◌+◌, ◌/◌, ◌<◌, ◌≤◌, true, not, ◌&&◌, ◌==◌, nat_lt, List, map, Option, Some, None, if◌then◌else◌}
+use Rattle.desk_laws.specs.declared.limits.TheConstants.{TILE_SIDE}
 use Rattle.desk_laws.specs.Rows.{span}
 use Rattle.gui_num.specs.declared.Point.{Point}
 use Rattle.gui_num.specs.declared.Rect.{Rect}
@@ -17,7 +18,7 @@ KeepsAll old new = (s x y : ℕ) → colour_at s x y new ≡ colour_at s x y old
 abbrev pub HoldsAll : ℕ → Rect → List Tile → Type 0
 HoldsAll slot r held =
     (x y : ℕ) → nat_of r.x ≤ x → x < nat_of r.x + r.w → nat_of r.y ≤ y → y < nat_of r.y + r.h →
-    is_held (spot_of slot (x / 64, y / 64)) held ≡ true
+    is_held (spot_of slot (x / TILE_SIDE, y / TILE_SIDE)) held ≡ true
 
 -- who is held stays so
 abbrev pub KeepsHeld : List Tile → List Tile → Type 0

@@ -1,6 +1,8 @@
 -- The tiles that are held, in the order of their spots.
 use Rattle.std.specs.Prelude.{ℕ, zero, suc, ◌++◌, ◌+◌, ◌-◌, ◌*◌, ◌/◌, ◌%◌, Bool, true, not, ◌&&◌, ◌||◌, ◌==◌, List, [], ◌∷◌, length, map, filter, find, Option, Some, None, is_some, if◌then◌else◌, pos, int_le, slice_index_or, slice_set}
 use Rattle.std.specs.List.{list_all}
+use Rattle.desk_laws.specs.declared.limits.TheConstants.{TILE_SIDE}
+use Rattle.tile_store.specs.declared.square.TheConstants.{PIXELS}
 use Rattle.gui_num.specs.declared.Point.{Point}
 use Rattle.gui_num.specs.declared.Rect.{Rect}
 use Rattle.gui_num.specs.Rects.{nat_of}
@@ -30,7 +32,7 @@ pixel_in k (Some tile) = slice_index_or tile.square k None
 
 -- the colour of a slot's pixel at a column and a row, if something was read there
 abbrev pub colour_at : ℕ → ℕ → ℕ → List Tile → Option ℕ
-colour_at slot x y held = pixel_in (y % 64 * 64 + x % 64) (tile_at (spot_of slot (x / 64, y / 64)) held)
+colour_at slot x y held = pixel_in (y % TILE_SIDE * TILE_SIDE + x % TILE_SIDE) (tile_at (spot_of slot (x / TILE_SIDE, y / TILE_SIDE)) held)
 
 -- whether a pixel has no coordinate below 0
 abbrev pub is_on : Point → Bool
@@ -45,11 +47,11 @@ abbrev pub rises : List Tile → Bool
 rises [] = true
 rises (t ∷ ts) = list_all (λ u. before t.spot u.spot) ts && rises ts
 
--- whether a tile has 4096 pixels
+-- whether a tile has all its pixels
 abbrev pub is_whole : Tile → Bool
-is_whole t = length t.square == 4096
+is_whole t = length t.square == PIXELS
 
--- whether each tile has 4096 pixels
+-- whether each tile has all its pixels
 abbrev pub are_whole : List Tile → Bool
 are_whole held = list_all is_whole held
 
@@ -81,11 +83,11 @@ places_in_row row from n = map (λ i. (i, row)) (span from n)
 
 -- how many tiles n pixels from a on meet along a side
 abbrev pub tiles_along : ℕ → ℕ → ℕ
-tiles_along a n = if n == 0 then 0 else (a + n + 63) / 64 - a / 64
+tiles_along a n = if n == 0 then 0 else (a + n + (TILE_SIDE - 1)) / TILE_SIDE - a / TILE_SIDE
 
 -- the columns and rows of the tiles that a rectangle meets, row by row
 abbrev pub tiles_met : Rect → List (ℕ × ℕ)
-tiles_met r = grid (nat_of r.x / 64) (nat_of r.y / 64) (tiles_along (nat_of r.x) r.w) (tiles_along (nat_of r.y) r.h)
+tiles_met r = grid (nat_of r.x / TILE_SIDE) (nat_of r.y / TILE_SIDE) (tiles_along (nat_of r.x) r.w) (tiles_along (nat_of r.y) r.h)
 
 -- a tile with a colour at a pixel, if it lies at a spot
 abbrev pub written_in : Spot → ℕ → ℕ → Tile → Tile
@@ -98,7 +100,7 @@ written spot k colour held = map (written_in spot k colour) held
 -- a tile without the pixels outside the first w columns and h rows of its slot, if it is a tile of this slot
 abbrev pub cut_tile : ℕ → ℕ → ℕ → Tile → Tile
 cut_tile slot w h t =
-    if t.spot.slot == slot then record t { square = cut_from 0 (w - 64 * t.spot.column) (h - 64 * t.spot.row) t.square } else t
+    if t.spot.slot == slot then record t { square = cut_from 0 (w - TILE_SIDE * t.spot.column) (h - TILE_SIDE * t.spot.row) t.square } else t
 
 -- whether a tile is another slot's or has a pixel
 abbrev pub is_left : ℕ → Tile → Bool

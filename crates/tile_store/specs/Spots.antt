@@ -1,5 +1,6 @@
 -- Where a tile lies, and the order of tiles.
 use Rattle.std.specs.Prelude.{ℕ, ◌/◌, ◌*◌, ◌+◌, ◌%◌, Bool, ◌&&◌, ◌||◌, ◌==◌, nat_lt}
+use Rattle.desk_laws.specs.declared.limits.TheConstants.{TILE_SIDE}
 use Rattle.gui_num.specs.declared.Point.{Point}
 use Rattle.gui_num.specs.Rects.{nat_of}
 use Rattle.tile_store.specs.declared.spot.Spot.{Spot}
@@ -18,8 +19,8 @@ spot_of slot place = record { slot = slot; column = place.0; row = place.1 }
 
 -- the spot in which a slot's pixel lies
 abbrev pub spot_at : ℕ → Point → Spot
-spot_at slot p = record { slot = slot; column = nat_of p.x / 64; row = nat_of p.y / 64 }
+spot_at slot p = record { slot = slot; column = nat_of p.x / TILE_SIDE; row = nat_of p.y / TILE_SIDE }
 
 -- which of its tile's pixels a pixel is, counted row by row
 abbrev pub pixel_of : Point → ℕ
-pixel_of p = nat_of p.y % 64 * 64 + nat_of p.x % 64
+pixel_of p = nat_of p.y % TILE_SIDE * TILE_SIDE + nat_of p.x % TILE_SIDE

@@ -1,6 +1,8 @@
 -- The pixels of a tile, row by row: a colour where something was read.
 use Rattle.std.specs.Prelude.{ℕ, suc, ◌/◌, ◌%◌, Bool, ◌&&◌, nat_lt, List, [], ◌∷◌, map, replicate, Option, Some, None, is_some, if◌then◌else◌}
 use Rattle.std.specs.List.{list_any}
+use Rattle.desk_laws.specs.declared.limits.TheConstants.{TILE_SIDE}
+use Rattle.tile_store.specs.declared.square.TheConstants.{PIXELS}
 
 -- what a word of a tile stands for: a colour, or nothing where it is above ffffff
 abbrev pub shown : ℕ → Option ℕ
@@ -16,7 +18,7 @@ blanks n = replicate n None
 
 -- the pixels of a tile of which nothing was read
 abbrev pub blank : List (Option ℕ)
-blank = blanks 4096
+blank = blanks PIXELS
 
 -- whether some pixel has a colour
 abbrev pub has_pixel : List (Option ℕ) → Bool
@@ -24,7 +26,7 @@ has_pixel pixels = list_any is_some pixels
 
 -- whether a tile's pixel lies in its first w columns and h rows
 abbrev pub is_inside : ℕ → ℕ → ℕ → Bool
-is_inside w h k = nat_lt (k % 64) w && nat_lt (k / 64) h
+is_inside w h k = nat_lt (k % TILE_SIDE) w && nat_lt (k / TILE_SIDE) h
 
 -- a tile's pixels from the one with number k on: those outside the first w columns and h rows are forgotten
 abbrev pub cut_from : ℕ → ℕ → ℕ → List (Option ℕ) → List (Option ℕ)

@@ -1,4 +1,4 @@
-//! What was read of windows, kept in tiles of 64 by 64 pixels, in memory that is taken once.
+//! What was read of windows, kept in square tiles of pixels, in memory that is taken once.
 #![tactic(auto)]
 
 mod shelf;

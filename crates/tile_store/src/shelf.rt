@@ -1,6 +1,7 @@
 // The tiles that are held, in the order of their spots.
 ghost use Rattle.std.specs.Prelude.{◌≡◌, ℕ, ◌+◌, ◌-◌, ◌*◌, ◌<◌, ◌≤◌, ◌^◌, true, false, [], ◌∷◌, ◌++◌, length, take, drop, Some, None, slice_index, slice_index_or, vec_len, vec_capacity};
 ghost use Rattle.tile_store.specs.declared.shelf.Tile.{Tile};
+ghost use Rattle.tile_store.specs.declared.square.TheConstants.{PIXELS};
 ghost use Rattle.tile_store.specs.Spots.{before, same};
 ghost use Rattle.tile_store.specs.Held.{tile_at, is_held, pixel_in, rises, with_tile, written, swept, swept_at, cut_tile, is_left, blank_tile};
 ghost use Rattle.tile_store.specs.Contents.{colour_or};
@@ -8,6 +9,7 @@ ghost use Rattle.tile_store.specs.Places.{IsPlaceFor, is_first};
 
 use crate::spot::{Spot, is_before, is_same};
 use crate::square::Square;
+use desk_laws::TILE_SIDE;
 
 // A tile that is held: where it lies, and its pixels.
 #[derive(Drop)]
@@ -63,7 +65,7 @@ pub(crate) fn has(held: &[Tile], spot: Spot) -> bool
 // The colour of a pixel of the tile at a spot, if the tile is held and something was read there.
 pub(crate) fn read(held: &[Tile], spot: Spot, k: usize) -> Option<u32>
     requires rising { rises held.now ≡ true }
-    requires k { k < 4096 }
+    requires k { k < PIXELS }
     ensures { result ≡ pixel_in k (tile_at spot held.now) }
 {
     let i = place_for(held, spot);
@@ -88,7 +90,7 @@ pub(crate) fn read_part(
     at: usize,
 ) -> usize
     requires rising { rises held.now ≡ true }
-    requires pixels { k + n ≤ 4096 }
+    requires pixels { k + n ≤ PIXELS }
     requires room { at + n ≤ length out.old }
     ensures read { (i : ℕ) → at ≤ i → i < at + n → slice_index out.new i ≡ colour_or blank (pixel_in (k + (i - at)) (tile_at spot held.now)) }
     ensures kept { (i : ℕ) → i < at → slice_index out.new i ≡ slice_index out.old i }
@@ -118,7 +120,7 @@ fn fill_part(out: &mut [u32], at: usize, n: usize, colour: u32)
 pub(crate) fn write(held: &mut Vec<Tile>, spot: Spot, k: usize, colour: u32)
     requires rising { rises held.old.items ≡ true }
     requires held { is_held spot held.old.items ≡ true }
-    requires k { k < 4096 }
+    requires k { k < PIXELS }
     requires colour { colour < 2 ^ 24 }
     ensures held { held.new.items ≡ written spot k colour held.old.items }
     ensures read { pixel_in k (tile_at spot held.new.items) ≡ Some colour }
@@ -217,9 +219,9 @@ pub(crate) fn give_back(held: &mut Vec<Tile>, spare: &mut Vec<Square>)
     }
 }
 
-// How many of so many places lie in the k-th part of 64 and behind it.
+// How many of so many places lie in the k-th tile and behind it.
 fn left_of(size: u32, k: u32) -> u32
-    ensures { result ≡ size - 64 * k }
+    ensures { result ≡ size - TILE_SIDE * k }
 {
-    u64::from(size).saturating_sub(64 * u64::from(k)) as u32
+    u64::from(size).saturating_sub(u64::from(TILE_SIDE) * u64::from(k)) as u32
 }

@@ -4,17 +4,21 @@ ghost use Rattle.tile_store.specs.Squares.{blank, has_pixel, cut_from, cut_words
 ghost use Rattle.tile_store.specs.Contents.{colour_or};
 ghost use Rattle.std.specs.List.{list_any};
 
+use desk_laws::TILE_SIDE;
 use gui_num::NoMemory;
 use std::alloc::Global;
 use std::marker::Model;
 
+// The side of a tile, in pixels.
+pub const SIDE: usize = TILE_SIDE as usize;
+
 // How many pixels a tile has.
-const PIXELS: usize = 4096;
+pub const PIXELS: usize = SIDE * SIDE;
 
 // Stands where nothing was read.
 const NOTHING: u32 = 0xff00_0000;
 
-// The pixels of a tile of 64 by 64, row by row: a colour each, or nothing.
+// The pixels of a tile, row by row: a colour each, or nothing.
 #[derive(Drop)]
 pub struct Square {
     words: Vec<u32>,
@@ -22,13 +26,14 @@ pub struct Square {
 
 impl Model for Square {
     ghost use Rattle.std.specs.Prelude.{ℕ, ◌≡◌, List, Option, length};
+    ghost use Rattle.tile_store.specs.declared.square.TheConstants.{PIXELS};
     ghost use Rattle.tile_store.specs.Squares.{all_shown};
 
     ghost Value = { List (Option ℕ) };
 
     ghost view = { λ s. all_shown s.words.items };
 
-    ghost invariant = { λ s. length s.words.items ≡ 4096 };
+    ghost invariant = { λ s. length s.words.items ≡ PIXELS };
 }
 
 impl Square {
@@ -49,7 +54,7 @@ impl Square {
 
     // The colour of a pixel, if something was read there.
     pub(crate) fn get(&self, k: usize) -> Option<u32>
-        requires { k < 4096 }
+        requires { k < PIXELS }
         ensures { result ≡ slice_index_or self.now k None }
     {
         let word = self.words[k];
@@ -59,7 +64,7 @@ impl Square {
     // Writes the colours of n pixels from the one with number k on behind the first `at` places of
     // `out`, `blank` where nothing was read.
     pub(crate) fn copy_to(&self, k: usize, n: usize, blank: u32, out: &mut [u32], at: usize)
-        requires pixels { k + n ≤ 4096 }
+        requires pixels { k + n ≤ PIXELS }
         requires room { at + n ≤ length out.old }
         ensures copied { (i : ℕ) → at ≤ i → i < at + n → slice_index out.new i ≡ colour_or blank (slice_index_or self.now (k + (i - at)) None) }
         ensures kept { (i : ℕ) → i < at → slice_index out.new i ≡ slice_index out.old i }
@@ -73,7 +78,7 @@ impl Square {
 
     // Gives a pixel a colour.
     pub(crate) fn set(&mut self, k: usize, colour: u32)
-        requires k { k < 4096 }
+        requires k { k < PIXELS }
         requires colour { colour < 2 ^ 24 }
         ensures pixels { self.new ≡ slice_set self.old k (Some colour) }
         ensures read { slice_index_or self.new k None ≡ Some colour }
@@ -98,10 +103,10 @@ impl Square {
 
 // Forgets the words outside the first w columns and h rows.
 fn cut_all(words: &mut Vec<u32>, w: u32, h: u32)
-    requires { length words.old.items ≡ 4096 }
+    requires { length words.old.items ≡ PIXELS }
     ensures { words.new.items ≡ cut_words 0 w h words.old.items }
 {
-    for k in 0..4096u32 {
+    for k in 0..PIXELS as u32 {
         words[k as usize] = cut_word(words[k as usize], k, w, h);
     }
 }
@@ -110,7 +115,7 @@ fn cut_all(words: &mut Vec<u32>, w: u32, h: u32)
 fn cut_word(word: u32, k: u32, w: u32, h: u32) -> u32
     ensures { result ≡ cut_word k w h word }
 {
-    if k % 64 < w && k / 64 < h {
+    if k % TILE_SIDE < w && k / TILE_SIDE < h {
         word
     } else {
         NOTHING

@@ -2,19 +2,21 @@
 ghost use Rattle.std.specs.Prelude.{◌≡◌, ◌≢◌, ℕ, ◌+◌, ◌-◌, ◌*◌, ◌/◌, ◌%◌, ◌<◌, ◌≤◌, ◌^◌, true, false, [], length, IfOk, pos, ◌≤ℤ◌, vec_capacity, vec_len, map, Some};
 ghost use Rattle.gui_num.specs.Rects.{IsFit, nat_of};
 ghost use Rattle.desk_laws.specs.Rows.{span, grid};
+ghost use Rattle.tile_store.specs.declared.square.TheConstants.{PIXELS};
 ghost use Rattle.tile_store.specs.Spots.{spot_at, pixel_of};
 ghost use Rattle.tile_store.specs.Held.{TilesView, rises, are_whole, content, is_held, with_tile, opened, missing, tiles_along, tiles_met, written, swept, dropped, places_in_row};
 ghost use Rattle.tile_store.specs.Contents.{KeepsAll, HoldsAll, KeepsHeld, ColoursOne, CutsAway, Empties, row_colours};
 
 use crate::shelf::{Tile, add, give_back, has, read, read_part, sweep, write};
 use crate::spot::Spot;
-use crate::square::Square;
+use crate::square::{SIDE, Square};
+use desk_laws::TILE_SIDE;
 use gui_num::{NoMemory, Point, Rect};
 use std::alloc::Global;
 use std::marker::Model;
 
 /// What was read of windows, each known by a slot, any number of 32 bits that the caller names: for a
-/// pixel of a slot a colour, or nothing. It is kept in tiles of 64 by 64 pixels, so many as were taken
+/// pixel of a slot a colour, or nothing. It is kept in square tiles of pixels, so many as were taken
 /// memory for; nothing but its held tiles is kept for a slot.
 ///
 /// The held tiles stand in the order of slot, row and column, and a tile is found by halving: among
@@ -186,8 +188,8 @@ fn lies_in(slot: u32, p: Point) -> Spot
 {
     Spot {
         slot,
-        column: p.x as u32 / 64,
-        row: p.y as u32 / 64,
+        column: p.x as u32 / TILE_SIDE,
+        row: p.y as u32 / TILE_SIDE,
     }
 }
 
@@ -196,17 +198,17 @@ fn index_of(p: Point) -> usize
     requires x { pos 0 ≤ℤ p.x }
     requires y { pos 0 ≤ℤ p.y }
     ensures pixel { result ≡ pixel_of p }
-    ensures within { result < 4096 }
+    ensures within { result < PIXELS }
 {
-    p.y as usize % 64 * 64 + p.x as usize % 64
+    p.y as usize % SIDE * SIDE + p.x as usize % SIDE
 }
 
 // The column or row of tiles in which a coordinate lies.
 fn tile_of(a: i32) -> u32
     requires { pos 0 ≤ℤ a }
-    ensures { result ≡ nat_of a / 64 }
+    ensures { result ≡ nat_of a / TILE_SIDE }
 {
-    a as u32 / 64
+    a as u32 / TILE_SIDE
 }
 
 // The column or row of tiles behind those that n pixels from a on meet.
@@ -214,13 +216,13 @@ fn tile_past(a: i32, n: u32) -> u32
     requires low { pos 0 ≤ℤ a }
     requires high { a ≤ℤ pos 65535 }
     requires n { n ≤ 32768 }
-    ensures past { result ≡ nat_of a / 64 + tiles_along (nat_of a) n }
+    ensures past { result ≡ nat_of a / TILE_SIDE + tiles_along (nat_of a) n }
     ensures few { tiles_along (nat_of a) n ≤ 1024 }
 {
     if n == 0 {
         return tile_of(a);
     }
-    (a as u32 + n + 63) / 64
+    (a as u32 + n + (TILE_SIDE - 1)) / TILE_SIDE
 }
 
 // The pixels of so many tiles.
@@ -279,11 +281,11 @@ fn read_parts(held: &[Tile], slot: u32, x: u32, y: u32, blank: u32, out: &mut [u
         let from = x + done as u32;
         let spot = Spot {
             slot,
-            column: from / 64,
-            row: y / 64,
+            column: from / TILE_SIDE,
+            row: y / TILE_SIDE,
         };
         let n = part_of(from, out.len() - done);
-        let k = y as usize % 64 * 64 + from as usize % 64;
+        let k = y as usize % SIDE * SIDE + from as usize % SIDE;
         near = read_part(held, near, spot, k, n, blank, out, done);
         done += n;
     }
@@ -294,8 +296,8 @@ fn part_of(from: u32, n: usize) -> usize
     requires { 0 < n }
     ensures some { 0 < result }
     ensures few { result ≤ n }
-    ensures one_tile { from % 64 + result ≤ 64 }
+    ensures one_tile { from % TILE_SIDE + result ≤ TILE_SIDE }
 {
-    let room = 64 - from as usize % 64;
+    let room = SIDE - from as usize % SIDE;
     if n < room { n } else { room }
 }
