@@ -54,10 +54,10 @@ module _ {O : Type 0} (takes : O → Post → O → Type 0) (out out' : O) (gues
     posts = λ setup state stands. let P : StepOutcome → Type 0 = λ o. Leads takes out (guest_posts o.posts) out' in subst P (sym (is setup state)) (done setup state stands).1;
     drawn = λ snap setup state stands. absurd (undrawn snap);
     painted = λ setup state stands. ap (λ (d : DeskView). d.picture.painted) (alone.rest ∙ shown) ∙ sym (unpainted setup old.picture.painted);
-    others = λ g other mine apart. alone.others other (λ same. apart (same ∙ own g mine)) ∙ ap (session_in other) one;
-    other_frames = λ g other mine apart. unread other (λ same. apart (same ∙ own g mine));
-    guests = alone.guests ∙ ap (λ (d : DeskView). length d.sessions) one;
-    pages = alone-pages guest counted new alone ∙ ap pages_of one;
+    others = λ g other mine apart.
+        let besides : other ≢ guest = λ same. apart (same ∙ own g mine) in
+        record { session = alone.others other besides ∙ ap (session_in other) one; frames = unread other besides };
+    sizes = record { guests = alone.guests ∙ ap (λ (d : DeskView). length d.sessions) one; pages = alone-pages guest counted new alone ∙ ap pages_of one };
   }
     where
       shown : record counted { sessions = new.sessions; layers = new.layers; messages = new.messages; glances = new.glances } ≡ record (item_counted old) { sessions = new.sessions; layers = new.layers; messages = new.messages; glances = new.glances }
@@ -122,9 +122,10 @@ snap-item takes out item piece old counted-old new frames is one same sides pain
           painted ∙ ap (λ p. counted (p + counted-old.picture.width * counted-old.picture.height)) (ap (λ (d : DeskView). d.picture.painted) one)
           ∙ ap (λ w. counted (old.picture.painted + w * counted-old.picture.height)) n.width ∙ ap (λ h. counted (old.picture.painted + setup.width * h)) n.height;
       others = λ g other mine apart. absurd (cc);
-      other_frames = λ g other mine apart. refl;
-      guests = ap (λ (d : DeskView). length d.sessions) (same ∙ ap (λ (d : DeskView). record d { picture = new.picture }) one);
-      pages = ap pages_of (same ∙ ap (λ (d : DeskView). record d { picture = new.picture }) one);
+      sizes = record {
+        guests = ap (λ (d : DeskView). length d.sessions) (same ∙ ap (λ (d : DeskView). record d { picture = new.picture }) one);
+        pages = ap pages_of (same ∙ ap (λ (d : DeskView). record d { picture = new.picture }) one);
+      };
     })
   where
     after : (setup : Setup) (state : DeskState) → Stands setup old frames state → Stands setup counted-old frames (count_item state)

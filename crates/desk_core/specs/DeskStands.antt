@@ -2,6 +2,7 @@
 use Rattle.std.specs.Prelude.{◌≡◌, ℕ, ◌+◌, ◌-◌, ◌^◌, ◌<◌, ◌≤◌, true, false, List, [], length, map, Option, Some, None, slice_get}
 use Rattle.gui_num.specs.declared.Rect.{Rect}
 use Rattle.gui_num.specs.Rects.{area}
+use Rattle.desk_laws.specs.declared.limits.TheConstants.{MAX_GUESTS}
 use Rattle.desk_laws.specs.declared.setup.Setup.{Setup}
 use Rattle.desk_laws.specs.declared.item.Item.{Item}
 use Rattle.desk_laws.specs.declared.item.Item.TheVariants as items
@@ -35,7 +36,7 @@ pub record HasNumbers (setup : Setup) (desk : DeskView) : Type 0 where
   pub narrow : setup.border ≤ 16
   pub guests : guests_of desk ≡ length setup.guests
   pub some : 1 ≤ length setup.guests
-  pub few : length setup.guests ≤ 16
+  pub few : length setup.guests ≤ MAX_GUESTS
 
 -- a session that is open, in the definitions and on the desk, where these bytes are held
 pub record IsOpen (held : List ℕ) (view : SessionView) (session : Session) : Type 0 where
@@ -64,8 +65,7 @@ pub record PartStands (setup : Setup) (guest : ℕ) (held : List ℕ) (part : Pa
   pub glances_in_range : part.glances ≤ 2 ^ 64 - 1
 
 -- the desk stands for a state of the definitions, with a port on which the frames of each guest are these, and
--- holds these bytes of each guest while its session is open; no window is of a guest that isn't there, and the
--- override windows keep their limits
+-- holds these bytes of each guest while its session is open; no window is of a guest that isn't there
 pub record StandsWith (setup : Setup) (held : ℕ → List ℕ) (desk : DeskView) (frames : ℕ → PortState) (state : DeskState) : Type 0 where
   pub numbers : HasNumbers setup desk
   pub count : length state.sessions ≡ length setup.guests

@@ -1,5 +1,6 @@
 -- What is true of each desk.
 use Rattle.std.specs.Prelude.{ℕ, ◌*◌, ◌≤◌, List}
+use Rattle.desk_laws.specs.declared.limits.TheConstants.{MAX_WINDOWS}
 use Rattle.desk_laws.specs.declared.setup.Setup.{Setup}
 use Rattle.desk_laws.specs.Frames.{PortState}
 use Rattle.desk_laws.specs.State.{DeskState}
@@ -13,4 +14,4 @@ pub record IsKept (room : ℕ) (desk : DeskView) : Type 0 where
   pub frames : ℕ → PortState
   pub state : DeskState
   pub stands : StandsWith setup held desk frames state
-  pub roomy : 1024 * guests_of desk ≤ room
+  pub roomy : MAX_WINDOWS * guests_of desk ≤ room

@@ -1,12 +1,13 @@
 -- The shown windows of a desk from the topmost one down, as they are painted.
-use Rattle.std.specs.Prelude.{◌&&◌, ◌/◌, ◌%◌, ◌==◌, not, Bool, ℕ, List, ◌++◌, filter_map, reverse, option_map, Option, Some, None, if◌then◌else◌, slice_index_or}
+use Rattle.std.specs.Prelude.{◌&&◌, not, Bool, ℕ, List, ◌++◌, filter_map, reverse, option_map, Option, Some, None, if◌then◌else◌, slice_index_or}
 use Rattle.gui_num.specs.declared.Colour.{Colour}
+use Rattle.gui_wire.specs.declared.limits.TheConstants.{WINDOW_FLAG_MINIMIZE}
 use Rattle.gui_num.specs.declared.Rect.{Rect}
 use Rattle.gui_num.specs.Rects.{grown}
 use Rattle.compositor.specs.Composed.{Pane}
 use Rattle.desk_laws.specs.declared.row_id.RowId.{RowId}
 use Rattle.desk_laws.specs.Layers.{Layers}
-use Rattle.desk_laws.specs.Rows.{Row, is_shown, row_with}
+use Rattle.desk_laws.specs.Rows.{Row, has_flag, is_shown, row_with}
 use Rattle.guest_session.specs.Reading.{content_in}
 use Rattle.guest_session.specs.SessionView.{SessionView}
 use Rattle.window_table.specs.declared.pane.Pane.{Pane as Window}
@@ -15,7 +16,7 @@ use Rattle.desk_core.specs.DeskView.{no_session}
 
 -- whether a window is shown: mapped, and its flag MINIMIZE not set
 abbrev pub is_shown_window : Window → Bool
-is_shown_window window = window.mapped && not (window.flags / 4 % 2 == 1)
+is_shown_window window = window.mapped && not (has_flag WINDOW_FLAG_MINIMIZE window.flags)
 
 -- the windows of a guest
 abbrev pub rows_in : List SessionView → ℕ → List Row

@@ -2,29 +2,25 @@
 ghost use Rattle.std.specs.Prelude.{◌≡◌, ℕ, ◌<◌, ◌≤◌, ◌+◌, ◌*◌, List, length, map, slice_index_or, IfOk, IsTrue, false, true, if◌then◌else◌};
 ghost use Rattle.desk_laws.specs.declared.setup.Setup.{Setup};
 ghost use Rattle.desk_laws.specs.Rules.{first_broken};
-ghost use Rattle.desk_laws.specs.Sizes.{sizes_of};
 ghost use Rattle.desk_laws.specs.Items.{FitsItem, IsChange};
 ghost use Rattle.desk_laws.specs.Frames.{PortState, counted};
 ghost use Rattle.desk_laws.specs.Picture.{picture};
-ghost use Rattle.desk_laws.specs.Edges.{EdgesStayApart};
 ghost use Rattle.desk_laws.specs.Endings.{is_item_of};
-ghost use Rattle.desk_laws.specs.Override.{KeepsLimits};
 ghost use Rattle.desk_laws.specs.Scene.{Input};
 ghost use Rattle.desk_laws.specs.State.{DeskState, opening};
 ghost use Rattle.desk_laws.specs.Steps.{step, take_bytes, take_store, end_session};
 ghost use Rattle.io_ports.specs.Posts.{Leads};
 ghost use Rattle.desk_core.specs.DeskPosts.{guest_posts};
-ghost use Rattle.frame_pool.specs.Ports.{AreZeros};
+ghost use Rattle.frame_pool.specs.Ports.{AreZeros, ChangesFrames, HasExtent, KeepsExtent};
 ghost use Rattle.desk_core.specs.DeskView.{ChangesPart, guests_of, pages_of, part_of, no_session, picture_of, session_in};
 ghost use Rattle.desk_core.specs.DeskStands.{IsAtRest, IsFresh, PartStands, Stands, StepsTo, StoresTo, glances_in, item_counted, stepped_of, summary_of};
-ghost use Rattle.desk_core.specs.ItemSteps.{TakesItem};
+ghost use Rattle.desk_core.specs.ItemSteps.{LeavesGuest, Steps, TakesItem};
 ghost use Rattle.desk_core.specs.PieceSteps.{TookSome, Settled, PushesPiece, held_by};
-ghost use Rattle.desk_core.specs.Painting.{painted_after};
 
 use crate::panes::{Shown, StackPanes, show_stack};
 use crate::stack::{follow, layer_of};
 use compositor::Picture;
-use desk_laws::{Cause, GuestSetup, Item, RowId, Setup};
+use desk_laws::{Cause, GuestSetup, Item, MAX_WINDOWS, RowId, Setup};
 use frame_pool::FramePort;
 use guest_session::{Session, Turn};
 use gui_num::{Colour, NoMemory, Rect, area};
@@ -32,9 +28,6 @@ use io_ports::Outlet;
 use stacking::Stacking;
 use std::alloc::Global;
 use std::marker::Model;
-
-// How many windows a guest may have. The number is this project's own.
-const MAX_WINDOWS: u32 = 1024;
 
 /// What a step did.
 #[derive(Clone, Copy, Debug, PartialEq, Eq)]
@@ -157,15 +150,12 @@ impl Desk {
     // whether there was one, and the session hasn't ended.
     fn take_turn<P: FramePort, O: Outlet>(&mut self, guest: u32, port: &mut P, out: &mut O) -> bool
         requires there { guest < guests_of self.old }
-        requires guests { P.guests port.old ≡ guests_of self.old }
-        requires pages { P.pages port.old ≡ pages_of self.old }
+        requires port { HasExtent P.guests P.pages port.old (guests_of self.old) (pages_of self.old) }
         ensures took { (setup : Setup) (held : List ℕ) (state : DeskState) → PartStands setup guest held (part_of guest self.old) (P.state port.old guest) state → TookSome O.takes out.old out.new setup guest held (part_of guest self.old) (part_of guest self.new) (P.state port.new guest) state }
         ensures fewer { IsTrue result → held_by (session_in guest self.new) < held_by (session_in guest self.old) }
         ensures settled { result ≡ false → Settled (session_in guest self.new) }
         ensures alone { ChangesPart guest self.old self.new }
-        ensures others { (other : ℕ) → (other ≡ guest → ⊥) → P.state port.new other ≡ P.state port.old other }
-        ensures port_guests { P.guests port.new ≡ P.guests port.old }
-        ensures port_pages { P.pages port.new ≡ P.pages port.old }
+        ensures port { ChangesFrames P.guests P.pages P.state guest port.old port.new }
     {
         let session = &mut self.sessions[guest as usize];
         let greeted = session.greeted();
@@ -194,14 +184,11 @@ impl Desk {
     // Takes all whole units off the bytes that are held of a guest, until one ends its session.
     fn take_units<P: FramePort, O: Outlet>(&mut self, guest: u32, port: &mut P, out: &mut O)
         requires there { guest < guests_of self.old }
-        requires guests { P.guests port.old ≡ guests_of self.old }
-        requires pages { P.pages port.old ≡ pages_of self.old }
+        requires port { HasExtent P.guests P.pages port.old (guests_of self.old) (pages_of self.old) }
         ensures took { (setup : Setup) (held : List ℕ) (state : DeskState) → PartStands setup guest held (part_of guest self.old) (P.state port.old guest) state → TookSome O.takes out.old out.new setup guest held (part_of guest self.old) (part_of guest self.new) (P.state port.new guest) state }
         ensures settled { Settled (session_in guest self.new) }
         ensures alone { ChangesPart guest self.old self.new }
-        ensures others { (other : ℕ) → (other ≡ guest → ⊥) → P.state port.new other ≡ P.state port.old other }
-        ensures port_guests { P.guests port.new ≡ P.guests port.old }
-        ensures port_pages { P.pages port.new ≡ P.pages port.old }
+        ensures port { ChangesFrames P.guests P.pages P.state guest port.old port.new }
     {
         while self.take_turn(guest, port, out) {}
     }
@@ -227,13 +214,10 @@ impl Desk {
         out: &mut O,
     )
         requires there { guest < guests_of self.old }
-        requires guests { P.guests port.old ≡ guests_of self.old }
-        requires pages { P.pages port.old ≡ pages_of self.old }
+        requires port { HasExtent P.guests P.pages port.old (guests_of self.old) (pages_of self.old) }
         ensures took { (setup : Setup) (state : DeskState) → IsAtRest setup self.old (P.state port.old) state → StepsTo O.takes out.old out.new setup self.new (P.state port.new) (take_bytes setup guest piece.now state) }
         ensures alone { ChangesPart guest self.old self.new }
-        ensures others { (other : ℕ) → (other ≡ guest → ⊥) → P.state port.new other ≡ P.state port.old other }
-        ensures port_guests { P.guests port.new ≡ P.guests port.old }
-        ensures port_pages { P.pages port.new ≡ P.pages port.old }
+        ensures port { ChangesFrames P.guests P.pages P.state guest port.old port.new }
     {
         self.take_units(guest, port, out);
         let mut left = piece;
@@ -269,14 +253,11 @@ impl Desk {
         piece: &[u8],
         port: &mut P,
     )
-        requires guests { P.guests port.old ≡ guests_of self.now }
-        requires pages { P.pages port.old ≡ pages_of self.now }
+        requires port { HasExtent P.guests P.pages port.old (guests_of self.now) (pages_of self.now) }
         requires guest { guest < guests_of self.now }
         requires change { IsChange page offset (length piece.now) (pages_of self.now) }
         ensures took { (setup : Setup) (state : DeskState) → IsAtRest setup self.now (P.state port.old) state → StoresTo setup self.now (P.state port.new) (take_store guest delay page offset piece.now state) }
-        ensures others { (other : ℕ) → (other ≡ guest → ⊥) → P.state port.new other ≡ P.state port.old other }
-        ensures port_guests { P.guests port.new ≡ P.guests port.old }
-        ensures port_pages { P.pages port.new ≡ P.pages port.old }
+        ensures port { ChangesFrames P.guests P.pages P.state guest port.old port.new }
     {
         if self.sessions[guest as usize].ended().is_none() {
             port.store(guest, delay, page, offset, piece);
@@ -319,12 +300,10 @@ impl Desk {
         out: &mut O,
     ) -> Stepped
         requires range { FitsItem (guests_of self.old) (pages_of self.old) item.now (length piece.now) }
-        requires guests { P.guests port.old ≡ guests_of self.old }
-        requires pages { P.pages port.old ≡ pages_of self.old }
+        requires port { HasExtent P.guests P.pages port.old (guests_of self.old) (pages_of self.old) }
         ensures took { TakesItem O.takes out.old out.new item.now piece.now self.old self.new (P.state port.old) (P.state port.new) }
         ensures answer { result ≡ stepped_of item.now }
-        ensures port_guests { P.guests port.new ≡ P.guests port.old }
-        ensures port_pages { P.pages port.new ≡ P.pages port.old }
+        ensures port { KeepsExtent P.guests P.pages port.old port.new }
     {
         match *item {
             Item::Bytes { guest } => {
@@ -372,8 +351,8 @@ impl Desk {
     /// at Store, unless its session has ended.
     ///
     /// An item of one guest leaves the sessions, the windows and the frames of all others as they are.
-    /// In each picture no content of one window touches that of another, and override windows lie on
-    /// the desktop with their borders and take no more than their share of it.
+    /// In each picture no content of one window touches that of another, and override-redirect windows
+    /// lie on the desktop with their borders and take no more than their percent of it.
     pub fn step<P: FramePort, O: Outlet>(
         &mut self,
         item: &Item,
@@ -382,21 +361,12 @@ impl Desk {
         out: &mut O,
     ) -> Stepped
         requires range { FitsItem (guests_of self.old) (pages_of self.old) item.now (length piece.now) }
-        requires guests { P.guests port.old ≡ guests_of self.old }
-        requires pages { P.pages port.old ≡ pages_of self.old }
-        ensures stands { (setup : Setup) (state : DeskState) → Stands setup self.old (P.state port.old) state → Stands setup self.new (P.state port.new) (step setup item.now piece.now state).desk }
-        ensures posts { (setup : Setup) (state : DeskState) → Stands setup self.old (P.state port.old) state → Leads O.takes out.old (guest_posts (step setup item.now piece.now state).posts) out.new }
-        ensures drawn { item.now ≡ Item.Snap → (setup : Setup) (state : DeskState) → Stands setup self.old (P.state port.old) state → (picture_of self.new).pixels ≡ picture setup state.scene.rows state.scene.layers }
-        ensures edges { (setup : Setup) (state : DeskState) → Stands setup self.old (P.state port.old) state → EdgesStayApart setup.border state.scene.rows state.scene.layers }
-        ensures limits { (setup : Setup) (state : DeskState) → Stands setup self.old (P.state port.old) state → KeepsLimits (sizes_of setup) (step setup item.now piece.now state).desk.scene.rows }
-        ensures others { (guest other : ℕ) → is_item_of guest item.now ≡ true → (other ≡ guest → ⊥) → session_in other self.new ≡ session_in other self.old }
-        ensures other_frames { (guest other : ℕ) → is_item_of guest item.now ≡ true → (other ≡ guest → ⊥) → P.state port.new other ≡ P.state port.old other }
-        ensures painted { (setup : Setup) (state : DeskState) → Stands setup self.old (P.state port.old) state → (picture_of self.new).painted ≡ painted_after setup item.now (picture_of self.old).painted }
+        requires port { HasExtent P.guests P.pages port.old (guests_of self.old) (pages_of self.old) }
+        ensures steps { (setup : Setup) (state : DeskState) → Stands setup self.old (P.state port.old) state → Steps O.takes out.old out.new setup item.now piece.now state self.old self.new (P.state port.new) }
+        ensures others { (guest other : ℕ) → is_item_of guest item.now ≡ true → (other ≡ guest → ⊥) → LeavesGuest other self.old self.new (P.state port.old) (P.state port.new) }
         ensures answer { result ≡ stepped_of item.now }
-        ensures same_guests { guests_of self.new ≡ guests_of self.old }
-        ensures same_pages { pages_of self.new ≡ pages_of self.old }
-        ensures port_guests { P.guests port.new ≡ P.guests port.old }
-        ensures port_pages { P.pages port.new ≡ P.pages port.old }
+        ensures sizes { KeepsExtent guests_of pages_of self.old self.new }
+        ensures port { KeepsExtent P.guests P.pages port.old port.new }
     {
         self.take_item(item, piece, port, out)
     }

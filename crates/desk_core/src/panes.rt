@@ -13,12 +13,10 @@ use compositor::{PaneView, Panes};
 use desk_laws::RowId;
 use guest_session::{Pane, Session};
 use gui_num::{Colour, Rect};
+use gui_wire::WINDOW_FLAG_MINIMIZE;
 use label_border::outer;
 use stacking::Stacking;
 use std::marker::Model;
-
-// The flag of a window that is hidden, though it is mapped (qubes-gui-protocol.h, WINDOW_FLAG_MINIMIZE).
-const MINIMIZE: u32 = 4;
 
 // A shown window, and where it is on the desktop.
 #[derive(Drop)]
@@ -41,7 +39,7 @@ impl Model for Shown {
 fn is_shown(pane: &Pane) -> bool
     ensures { result ≡ is_shown_window pane.now }
 {
-    pane.mapped && pane.flags / MINIMIZE % 2 != 1
+    pane.mapped && pane.flags / WINDOW_FLAG_MINIMIZE % 2 != 1
 }
 
 // A window at this place, with a border of so many pixels in its guest's label colour.

@@ -1,3 +1,4 @@
+pub mod PortLemmas
 pub mod DueLemmas
 pub mod RegionLemmas
 pub mod ZeroLemmas

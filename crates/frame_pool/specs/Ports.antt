@@ -26,6 +26,20 @@ abbrev pub AllHave : ℕ → List FramesView → Type 0
 AllHave pages [] = Unit {0}
 AllHave pages (p ∷ pools) = (p.pages ≡ pages) × AllHave pages pools
 
+-- something, as a port or a desk, has so many guests, and each of them has so many pages
+pub record HasExtent {A : Type 0} (guests_of pages_of : A → ℕ) (a : A) (many each : ℕ) : Type 0 where
+  pub guests : guests_of a ≡ many
+  pub pages : pages_of a ≡ each
+
+-- as many guests and pages as before
+abbrev pub KeepsExtent : {A : Type 0} → (A → ℕ) → (A → ℕ) → A → A → Type 0
+KeepsExtent guests_of pages_of old new = HasExtent guests_of pages_of new (guests_of old) (pages_of old)
+
+-- of a port nothing but the frames of this guest changed
+pub record ChangesFrames {P : Type 0} (guests_of pages_of : P → ℕ) (state_of : P → ℕ → PortState) (guest : ℕ) (old new : P) : Type 0 where
+  pub others : (other : ℕ) → (other ≡ guest → ⊥) → state_of new other ≡ state_of old other
+  pub extent : KeepsExtent guests_of pages_of old new
+
 -- the frames of each of these guests are so many pages of zero words, of which none was loaded, and no
 -- store waits
 abbrev pub AreZeros : (guests pages : ℕ) → (ℕ → PortState) → Type 0

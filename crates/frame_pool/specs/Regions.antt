@@ -1,17 +1,18 @@
 -- A region of words, and stores that lie in it.
 use Rattle.std.specs.Prelude.{ℕ, ◌≡◌, ◌+◌, ◌*◌, ◌<◌, ◌≤◌, ◌%◌, List, [], ◌∷◌, length, replicate, slice_index_or}
+use Rattle.desk_laws.specs.declared.limits.TheConstants.{PAGE_BYTES, PAGE_WORDS}
 use Rattle.desk_laws.specs.Frames.{Waiting}
 
 -- the words of so many pages, all zero
 unfoldable pub zero_words : ℕ → List ℕ
-zero_words pages = replicate (1024 * pages) 0
+zero_words pages = replicate (PAGE_WORDS * pages) 0
 
 -- a store whose words lie in one page of a region of so many words
 pub record LiesIn (words : ℕ) (s : Waiting) : Type 0 where
-  pub page : 1024 * s.page + 1024 ≤ words
+  pub page : PAGE_WORDS * s.page + PAGE_WORDS ≤ words
   pub offset : s.offset % 4 ≡ 0
   pub whole : length s.bytes % 4 ≡ 0
-  pub end : s.offset + length s.bytes ≤ 4096
+  pub end : s.offset + length s.bytes ≤ PAGE_BYTES
 
 -- each store lies in a region of so many words
 abbrev pub AllLieIn : ℕ → List Waiting → Type 0

@@ -1,17 +1,16 @@
 // The frames of one guest, with the stores that wait.
 ghost use Rattle.std.specs.Prelude.{◌≡◌, ◌+◌, ◌<◌, ◌≤◌, ◌%◌, length, IfOk};
 ghost use Rattle.desk_laws.specs.Frames.{load as load_of, store as store_of};
+ghost use Rattle.desk_laws.specs.declared.limits.TheConstants.{PAGE_BYTES, PAGE_WORDS};
 ghost use Rattle.frame_pool.specs.Ports.{fresh};
 
 use crate::waiting::{Store, put, settle};
 use crate::{Glass, Place};
 use arrayvec::ArrayVec;
+use desk_laws::MAX_WAITING_STORES;
 use gui_num::NoMemory;
 use std::alloc::Global;
 use std::marker::Model;
-
-// The stores that may wait.
-const WAITING: usize = 64;
 
 // The words of one guest, how many were loaded, and the stores that wait, in the order in which they
 // came.
@@ -26,6 +25,7 @@ pub(crate) struct Frames {
 impl Model for Frames {
     ghost use Rattle.std.specs.Prelude.{◌≡◌, ◌*◌, ◌≤◌, length, vec_capacity};
     ghost use Rattle.desk_laws.specs.Frames.{Pool};
+    ghost use Rattle.desk_laws.specs.declared.limits.TheConstants.{MAX_WAITING_STORES, PAGE_WORDS};
     ghost use Rattle.frame_pool.specs.Ports.{FramesView};
     ghost use Rattle.frame_pool.specs.Regions.{AllLieIn};
 
@@ -33,7 +33,7 @@ impl Model for Frames {
 
     ghost view = { λ f. record { pages = f.pages; state = Pool f.glass f.loads f.waiting.items } };
 
-    ghost invariant = { λ f. (length f.glass ≡ 1024 * f.pages) × (AllLieIn (length f.glass) f.waiting.items × ((length f.waiting.items ≤ 64) × (64 ≤ vec_capacity f.waiting))) };
+    ghost invariant = { λ f. (length f.glass ≡ PAGE_WORDS * f.pages) × (AllLieIn (length f.glass) f.waiting.items × ((length f.waiting.items ≤ MAX_WAITING_STORES) × (MAX_WAITING_STORES ≤ vec_capacity f.waiting))) };
 }
 
 impl Frames {
@@ -45,7 +45,7 @@ impl Frames {
         Ok(Frames {
             glass: Glass::new(alloc, pages)?,
             loads: 0,
-            waiting: Vec::with_capacity(alloc, WAITING)?,
+            waiting: Vec::with_capacity(alloc, MAX_WAITING_STORES as usize)?,
             pages,
         })
     }
@@ -53,7 +53,7 @@ impl Frames {
     // Writes the stores that are due, reads the word at a place, and counts the load.
     pub(crate) fn load(&mut self, place: Place) -> u32
         requires page { place.page < self.old.pages }
-        requires word { place.word < 1024 }
+        requires word { place.word < PAGE_WORDS }
         ensures value { result ≡ (load_of self.old.state place.page place.word).0 }
         ensures after { self.new ≡ record self.old { state = (load_of self.old.state place.page place.word).1 } }
     {
@@ -68,11 +68,11 @@ impl Frames {
         requires page { page < self.old.pages }
         requires offset { offset % 4 ≡ 0 }
         requires whole { length bytes.now % 4 ≡ 0 }
-        requires end { offset + length bytes.now ≤ 4096 }
+        requires end { offset + length bytes.now ≤ PAGE_BYTES }
         ensures { self.new ≡ record self.old { state = store_of self.old.state delay page offset bytes.now } }
     {
         settle(&mut self.glass, &mut self.waiting, self.loads);
-        if delay > 0 && self.waiting.len() < WAITING {
+        if delay > 0 && self.waiting.len() < MAX_WAITING_STORES as usize {
             let due = self.loads.saturating_add(delay as u64);
             self.waiting
                 .push_reserved(waiting_store(due, page, offset, bytes));
@@ -84,7 +84,7 @@ impl Frames {
 
 // A store that waits.
 fn waiting_store(due: u64, page: u32, offset: u32, bytes: &[u8]) -> Store
-    requires { length bytes.now ≤ 4096 }
+    requires { length bytes.now ≤ PAGE_BYTES }
     ensures { result ≡ record { due = due; page = page; offset = offset; bytes = bytes.now } }
 {
     let mut kept = ArrayVec::new();

@@ -4,11 +4,12 @@ ghost use Rattle.frame_pool.specs.Regions.{zero_words};
 
 use crate::Place;
 use crate::region::Region;
+use desk_laws::PAGE_WORDS;
 use gui_num::NoMemory;
 use std::alloc::Global;
 use std::marker::Model;
 
-/// The frames of one guest: pages of 1024 words of 32 bits, all zero when made. Contracts see the list
+/// The frames of one guest: pages of `PAGE_WORDS` words of 32 bits, all zero when made. Contracts see the list
 /// of all words, page after page. They lie in one block, which is reached by a raw pointer alone, never
 /// by a reference, and is freed when the frames are dropped.
 #[derive(Drop)]
@@ -29,27 +30,32 @@ impl Glass {
     #[tactic(auto, unfolding(crate::specs::Regions::zero_words))]
     pub fn new(alloc: Global, pages: u32) -> Result<Glass, NoMemory>
         ensures zeros { IfOk result (λ glass. glass ≡ zero_words pages) }
-        ensures len { IfOk result (λ glass. length glass ≡ 1024 * pages) }
+        ensures len { IfOk result (λ glass. length glass ≡ PAGE_WORDS * pages) }
     {
-        let region = Region::new(alloc, 1024 * pages as usize)?;
+        let region = Region::new(alloc, PAGE_WORDS as usize * pages as usize)?;
         Ok(Glass { region })
     }
 
     /// The word at this place, which lies in the pages: one read through the raw pointer.
     pub fn load(&self, place: Place) -> u32
-        requires { 1024 * place.page + place.word < length self.now }
-        ensures { result ≡ slice_index self.now (1024 * place.page + place.word) }
+        requires { PAGE_WORDS * place.page + place.word < length self.now }
+        ensures { result ≡ slice_index self.now (PAGE_WORDS * place.page + place.word) }
     {
-        self.region
-            .load(1024 * place.page as usize + place.word as usize)
+        self.region.load(index_of(place))
     }
 
     /// Writes the word at this place, which lies in the pages.
     pub fn store(&mut self, place: Place, word: u32)
-        requires { 1024 * place.page + place.word < length self.old }
-        ensures { self.new ≡ slice_set self.old (1024 * place.page + place.word) word }
+        requires { PAGE_WORDS * place.page + place.word < length self.old }
+        ensures { self.new ≡ slice_set self.old (PAGE_WORDS * place.page + place.word) word }
     {
-        self.region
-            .store(1024 * place.page as usize + place.word as usize, word);
+        self.region.store(index_of(place), word);
     }
+}
+
+// The number of a word among the words of all pages.
+fn index_of(place: Place) -> usize
+    ensures { result ≡ PAGE_WORDS * place.page + place.word }
+{
+    PAGE_WORDS as usize * place.page as usize + place.word as usize
 }

@@ -11,7 +11,7 @@ use std::marker::Model;
 
 /// The frames of some guests in memory, all zero when made.
 ///
-/// A store with a delay waits, unless 64 stores of its guest wait already. It is written before the
+/// A store with a delay waits, unless `MAX_WAITING_STORES` of its guest wait already. It is written before the
 /// first load of its guest for which so many loads of the guest went before as there were at the
 /// store, and `delay` more; stores that are due together are written in the order of their due
 /// loads, and then in that in which they came. Any other store is written at once, after those that
@@ -34,7 +34,7 @@ impl Model for PoolPort {
 
 impl PoolPort {
     /// Zero words, for so many guests of so many pages. `NoMemory` where there is no memory for them
-    /// and for 64 waiting stores of 4096 bytes for each guest; no later call takes any.
+    /// and for `MAX_WAITING_STORES` waiting stores of a page each for each guest; no later call takes any.
     pub fn new(alloc: Global, guests: u32, pages: u32) -> Result<PoolPort, NoMemory>
         ensures made { IfOk result (λ port. port ≡ record { pages = pages; pools = replicate guests (record { pages = pages; state = fresh pages }) }) }
         ensures zeros { IfOk result (λ port. AreZeros (length port.pools) port.pages (λ guest. (slice_index_or port.pools guest no_frames).state)) }

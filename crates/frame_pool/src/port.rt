@@ -1,6 +1,8 @@
 // Where the frames of guests are read.
 ghost use Rattle.std.specs.Prelude.{◌≡◌, ℕ, ◌+◌, ◌<◌, ◌≤◌, ◌%◌, length};
 ghost use Rattle.desk_laws.specs.Frames.{PortState, load as load_of, store as store_of};
+ghost use Rattle.frame_pool.specs.Ports.{ChangesFrames};
+ghost use Rattle.desk_laws.specs.declared.limits.TheConstants.{PAGE_BYTES, PAGE_WORDS};
 
 use crate::Place;
 
@@ -20,12 +22,10 @@ pub trait FramePort {
     fn load(&mut self, guest: u32, place: Place) -> u32
         requires guest { guest < guests self.old }
         requires page { place.page < pages self.old }
-        requires word { place.word < 1024 }
+        requires word { place.word < PAGE_WORDS }
         ensures value { result ≡ (load_of (state self.old guest) place.page place.word).0 }
         ensures after { state self.new guest ≡ (load_of (state self.old guest) place.page place.word).1 }
-        ensures others { (other : ℕ) → (other ≡ guest → ⊥) → state self.new other ≡ state self.old other }
-        ensures guests { guests self.new ≡ guests self.old }
-        ensures pages { pages self.new ≡ pages self.old };
+        ensures alone { ChangesFrames guests pages state guest self.old self.new };
 
     /// Changes the frames of a guest, counted from 0: the bytes are written to a page, from the offset
     /// on, before the load that comes after `delay` further loads of this guest. The bytes and the
@@ -36,9 +36,7 @@ pub trait FramePort {
         requires offset { offset % 4 ≡ 0 }
         requires whole { length bytes.now % 4 ≡ 0 }
         requires some { 4 ≤ length bytes.now }
-        requires end { offset + length bytes.now ≤ 4096 }
+        requires end { offset + length bytes.now ≤ PAGE_BYTES }
         ensures after { state self.new guest ≡ store_of (state self.old guest) delay page offset bytes.now }
-        ensures others { (other : ℕ) → (other ≡ guest → ⊥) → state self.new other ≡ state self.old other }
-        ensures guests { guests self.new ≡ guests self.old }
-        ensures pages { pages self.new ≡ pages self.old };
+        ensures alone { ChangesFrames guests pages state guest self.old self.new };
 }

@@ -1,5 +1,6 @@
 // Frames of one or two guests, each of one page, with memory in plenty.
-ghost use Rattle.std.specs.Prelude.{◌≡◌, ◌<◌};
+ghost use Rattle.std.specs.Prelude.{◌<◌};
+ghost use Rattle.frame_pool.specs.Ports.{KeepsExtent};
 
 use super::*;
 use std::test::Fail;
@@ -9,8 +10,7 @@ fn word<P: FramePort>(port: &mut P, guest: u32, word: u32) -> u32
     requires guest { guest < P.guests port.old }
     requires page { 0 < P.pages port.old }
     requires word { word < 1024 }
-    ensures guests { P.guests port.new ≡ P.guests port.old }
-    ensures pages { P.pages port.new ≡ P.pages port.old }
+    ensures { KeepsExtent P.guests P.pages port.old port.new }
 {
     port.load(guest, Place { page: 0, word })
 }
@@ -19,8 +19,7 @@ fn word<P: FramePort>(port: &mut P, guest: u32, word: u32) -> u32
 fn store<P: FramePort>(port: &mut P, guest: u32, delay: u16, word: u32)
     requires guest { guest < P.guests port.old }
     requires page { 0 < P.pages port.old }
-    ensures guests { P.guests port.new ≡ P.guests port.old }
-    ensures pages { P.pages port.new ≡ P.pages port.old }
+    ensures { KeepsExtent P.guests P.pages port.old port.new }
 {
     let b = word.to_le_bytes();
     let bytes = [
@@ -33,8 +32,7 @@ fn store<P: FramePort>(port: &mut P, guest: u32, delay: u16, word: u32)
 fn store_eight<P: FramePort>(port: &mut P, delay: u16, word: u32)
     requires guest { 0 < P.guests port.old }
     requires page { 0 < P.pages port.old }
-    ensures guests { P.guests port.new ≡ P.guests port.old }
-    ensures pages { P.pages port.new ≡ P.pages port.old }
+    ensures { KeepsExtent P.guests P.pages port.old port.new }
 {
     store(port, 0, delay, word);
     store(port, 0, delay, word);

@@ -2,6 +2,7 @@
 ghost use Rattle.std.specs.Prelude.{◌≡◌, ◌+◌, ◌*◌, ◌/◌, ◌%◌, ◌<◌, ◌≤◌, length, vec_capacity, IfSome, IsNone};
 ghost use Rattle.desk_laws.specs.Frames.{settled_words, still_waiting, write, write_words};
 ghost use Rattle.gui_wire.specs.Words.{all_words};
+ghost use Rattle.desk_laws.specs.declared.limits.TheConstants.{PAGE_BYTES, PAGE_WORDS};
 ghost use Rattle.frame_pool.specs.Regions.{AllLieIn, LiesIn, IsFirst, NotBefore, due_at};
 
 use crate::{Glass, Place};
@@ -28,11 +29,11 @@ impl Model for Store {
 
 // Writes the bytes to a page, from the offset on.
 pub(crate) fn put(glass: &mut Glass, page: u32, offset: u32, bytes: &[u8])
-    requires page { 1024 * page + 1024 ≤ length glass.old }
+    requires page { PAGE_WORDS * page + PAGE_WORDS ≤ length glass.old }
     requires offset { offset % 4 ≡ 0 }
     requires whole { length bytes.now % 4 ≡ 0 }
-    requires end { offset + length bytes.now ≤ 4096 }
-    ensures words { glass.new ≡ write_words glass.old (1024 * page + offset / 4) (all_words bytes.now) }
+    requires end { offset + length bytes.now ≤ PAGE_BYTES }
+    ensures words { glass.new ≡ write_words glass.old (PAGE_WORDS * page + offset / 4) (all_words bytes.now) }
     ensures len { length glass.new ≡ length glass.old }
 {
     // The bytes stand as the numbers of a message do.

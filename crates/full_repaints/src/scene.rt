@@ -4,7 +4,7 @@ ghost use Rattle.std.specs.Prelude.{◌≡◌, ◌<◌, ◌≤◌, ◌*◌, None
 ghost use Rattle.desk_laws.specs.Rules.{first_broken};
 
 use byteorder::{ByteOrder, LittleEndian};
-use desk_laws::{GuestSetup, Guests, Name, Setup};
+use desk_laws::{GuestSetup, Guests, Name, PAGE_WORDS, Setup};
 use gui_num::{Colour, NoMemory, Rect};
 use std::alloc::Global;
 
@@ -16,9 +16,6 @@ pub(crate) const WINDOWS: u32 = 20;
 
 // How many of its pages each guest writes and shows.
 pub(crate) const PAGES: u32 = 64;
-
-// How many words a page has.
-const PAGE_WORDS: u32 = 1024;
 
 // The first bytes of each guest: the version 1.7, as a number whose lowest byte comes first.
 pub(crate) const VERSION: [u8; 4] = [7, 0, 1, 0];

@@ -5,15 +5,12 @@ ghost use Rattle.desk_laws.specs.Items.{FitsItem};
 ghost use Rattle.desk_core.specs.DeskView.{picture_of};
 
 use desk_core::{Desk, Picture};
-use desk_laws::{Item, Setup};
+use desk_laws::{Item, MAX_PIECE, Setup};
 use frame_pool::PoolPort;
 use gui_num::NoMemory;
 use io_ports::PostList;
 use std::alloc::Global;
 use std::marker::Model;
-
-// The longest piece of a guest's bytes that one item has.
-const PIECE: usize = 65536;
 
 // A desk of 4 guests of 4096 pages, their frames, and what they were told.
 #[derive(Drop)]
@@ -61,7 +58,7 @@ impl Screen {
     {
         let mut left = bytes;
         while !left.is_empty() {
-            let size = left.len().min(PIECE);
+            let size = left.len().min(MAX_PIECE as usize);
             self.take(&Item::Bytes { guest }, &left[..size]);
             left = &left[size..];
         }

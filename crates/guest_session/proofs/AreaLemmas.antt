@@ -9,7 +9,7 @@ use Rattle.tile_store.specs.Spots.{spot_of}
 use Rattle.tile_store.specs.Held.{written, is_held, places_in_row}
 use Rattle.tile_store.specs.Contents.{HoldsAll, KeepsHeld}
 use Rattle.tile_store.proofs.OpenLemmas.{row-next, grid-next}
-use Rattle.guest_session.specs.Reading.{tiles_drawn, rect_of}
+use Rattle.guest_session.specs.Reading.{tiles_coloured, rect_of}
 use Rattle.guest_session.specs.Areas.{Covers, row_in, pixel_at, tiles_read, frames_read}
 
 -- ---- what is still to be read
@@ -19,16 +19,16 @@ pub record Reading (slot : ℕ) (dump : Option DumpOf) (ps : List (ℕ × ℕ)) 
   pub tiles : tiles_read slot dump ps port held ≡ held'
   pub frames : frames_read dump ps port ≡ port'
 
-undrawn : (slot : ℕ) (ps : List (ℕ × ℕ)) (held : List Tile) → tiles_drawn slot ps [] held ≡ held
-undrawn slot [] held = refl
-undrawn slot (p ∷ ps) held = refl
+uncoloured : (slot : ℕ) (ps : List (ℕ × ℕ)) (held : List Tile) → tiles_coloured slot ps [] held ≡ held
+uncoloured slot [] held = refl
+uncoloured slot (p ∷ ps) held = refl
 
 -- once the first of them are read the others are left
 pub reading-part : (slot : ℕ) (dump : Option DumpOf) (ps qs : List (ℕ × ℕ)) (held : List Tile) (port : PortState) (held' : List Tile) (port' : PortState)
     → Reading slot dump (ps ++ qs) held port held' port'
     → Reading slot dump qs (tiles_read slot dump ps port held) (frames_read dump ps port) held' port'
 reading-part slot None ps qs held port held' port' r = record {
-  tiles = undrawn slot qs (tiles_drawn slot ps [] held) ∙ undrawn slot ps held ∙ sym (undrawn slot (ps ++ qs) held) ∙ r.tiles;
+  tiles = uncoloured slot qs (tiles_coloured slot ps [] held) ∙ uncoloured slot ps held ∙ sym (uncoloured slot (ps ++ qs) held) ∙ r.tiles;
   frames = r.frames;
 }
 reading-part slot (Some d) [] qs held port held' port' r = r

@@ -60,7 +60,7 @@ module _ {O : Type 0} (takes : O → Post → O → Type 0) (out out' : O) (port
   turn-found turn (Takes (Stop cause) behind) done is = absurd (decides-other turn 0 behind (verdict old.sizes old.guest old.minor old.rows (Stop cause)) done is)
   turn-found turn (Takes (Whole header body) behind) done is = clip-by turn header body behind (header.kind == 140) refl done is
 
--- a session may lend the clipboard data that its turn found
+-- a session shows the clipboard data that its turn found
 pub found-kept : (old new : SessionView) (rest : List ℕ) → StandsFor old.stream rest → FoundClip old new (front old.stream.greeted rest) → HasKeptClip new.stream
 found-kept old new rest stands found =
     let P : SessionView → Type 0 = λ s. HasKeptClip s.stream in

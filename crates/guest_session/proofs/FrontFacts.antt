@@ -12,8 +12,8 @@ use Rattle.desk_laws.specs.declared.cause.Cause.{Cause}
 use Rattle.desk_laws.specs.declared.cause.Cause.TheVariants.{ClipTooLong}
 use Rattle.desk_laws.specs.Stream.{Wait, Fault, Takes, Word, Whole, front, front_of, head_fault}
 use Rattle.desk_laws.proofs.Cutting.{front_by-whole_header, takes-whole_header}
-use Rattle.in_stream.specs.declared.Front.{Front as Lent}
-use Rattle.in_stream.specs.declared.Front.TheVariants as lent
+use Rattle.in_stream.specs.declared.Front.{Front as BorrowedFront}
+use Rattle.in_stream.specs.declared.Front.TheVariants as borrowed
 use Rattle.in_stream.specs.Received.{Received, StandsFor}
 use Rattle.in_stream.specs.Seen.{seen}
 use Rattle.in_stream.specs.Shown as shown
@@ -143,23 +143,23 @@ clip-body s g c shows h b begins =
     let x = clip-shown s h b begins in
     body-by (is_passed_over h) h g b c (sym x.1.1 ∙ sym (shows x.0 x.1.0))
 
-abbrev IsWhole : Lent → Type 0
-IsWhole front = (h : Header) × ((b : _) × (front ≡ lent.Whole h b))
+abbrev IsWhole : BorrowedFront → Type 0
+IsWhole front = (h : Header) × ((b : _) × (front ≡ borrowed.Whole h b))
 
-seen-whole : (front : Lent) (h : Header) (b : List ℕ) → seen front ≡ shown.Whole h b → IsWhole front
-seen-whole (lent.Whole header body) h b e = (header, (body, refl))
-seen-whole (lent.Bad header fault) h b e = absurd cc
-seen-whole (lent.ClipLong header) h b e = absurd cc
-seen-whole (lent.Skipped header) h b e = absurd cc
-seen-whole (lent.Skipping left) h b e = absurd cc
-seen-whole (lent.Need more) h b e = absurd cc
+seen-whole : (front : BorrowedFront) (h : Header) (b : List ℕ) → seen front ≡ shown.Whole h b → IsWhole front
+seen-whole (borrowed.Whole header body) h b e = (header, (body, refl))
+seen-whole (borrowed.Bad header fault) h b e = absurd cc
+seen-whole (borrowed.ClipLong header) h b e = absurd cc
+seen-whole (borrowed.Skipped header) h b e = absurd cc
+seen-whole (borrowed.Skipping left) h b e = absurd cc
+seen-whole (borrowed.Need more) h b e = absurd cc
 
 short-kept : (kind len : ℕ) → len ≤ 65000 → (kind == 140 && (nat_lt 65000 len && nat_le len 256000)) ≡ false
 short-kept kind len short = grind (arith, nat_tests)
 
 -- clipboard data whose body is kept is shown whole
-pub clip-is_whole : (s : Received) (front : Lent) → ((r : List ℕ) → StandsFor s r → seen front ≡ shown.shown r) → HasKeptClip s → IsWhole front
-clip-is_whole s lent_front shows clip =
+pub clip-is_whole : (s : Received) (front : BorrowedFront) → ((r : List ℕ) → StandsFor s r → seen front ≡ shown.shown r) → HasKeptClip s → IsWhole front
+clip-is_whole s borrowed_front shows clip =
     let h = clip.0 in
     let b = clip.1.0 in
     let c = clip.1.1.0 in
@@ -167,7 +167,7 @@ clip-is_whole s lent_front shows clip =
     let message = message-is c.rest h b c.behind (ap (λ t. front t c.rest) (sym g) ∙ c.takes) in
     let kept : is_passed_over h ≡ false = short-kept h.kind h.len (omega (arith, message.whole, clip.1.1.1)) in
     let x = clip-shown s h b c in
-    seen-whole lent_front h b (shows x.0 x.1.0 ∙ x.1.1 ∙ ap (λ o. cond o (shown.Skipped h) (shown.Whole h b)) kept)
+    seen-whole borrowed_front h b (shows x.0 x.1.0 ∙ x.1.1 ∙ ap (λ o. cond o (shown.Skipped h) (shown.Whole h b)) kept)
 
 -- ---- a fault
 

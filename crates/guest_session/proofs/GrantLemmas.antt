@@ -1,5 +1,5 @@
 -- What is done and told where a window is mapped, asks for a place, or gets flags.
-use Rattle.std.proofs.Common.{◌≡◌, ℕ, ℤ, Bool, true, false, cond, List, [], ◌∷◌, Some, sym, ap, ◌∙◌, subst}
+use Rattle.std.proofs.Common.{◌≡◌, ℕ, ℤ, Bool, true, false, cond, List, [], ◌∷◌, Some, refl, sym, ap, ◌∙◌, subst}
 use Rattle.std.specs.Prelude.{if◌then◌else◌}
 use Rattle.gui_num.specs.declared.Rect.{Rect}
 use Rattle.desk_laws.specs.Sizes.{Sizes}
@@ -102,3 +102,23 @@ module _ {O : Type 0} (takes : O → Post → O → Type 0) (out out' : O) (old 
             ∙ ap (λ b. cond b (tells_place row.window (whole_desktop sizes) false ∷ []) []) yes)
             leads;
       }
+
+-- a window that doesn't go to full screen gets its flags, and nothing is told
+pub flags-answered : {O : Type 0} (takes : O → Post → O → Type 0) (out : O) (old new : RowsView) (sizes : Sizes) (window : ℕ) (standing : Standing)
+    → ((row : Row) → row_with window old.rows ≡ Some row → Some standing ≡ Some (standing_of row))
+    → (set unset flags : ℕ) → flags ≡ flags_after standing.flags set unset
+    → ((row : Row) → standing ≡ standing_of row → false ≡ goes_full sizes row flags)
+    → ((row : Row) → row_with window old.rows ≡ Some row → new ≡ with_row (row_edited (edit.Flags flags) row) old)
+    → AnsweredFor takes out out old new window (λ row. flagged_row sizes (flags_after row.flags set unset) row) (λ row. tells_full sizes (flags_after row.flags set unset) row)
+flags-answered takes out old new sizes window standing is set unset flags after full edited = λ row found.
+    let at : standing ≡ standing_of row = same-some standing (standing_of row) (is row found) in
+    let n = flags_after row.flags set unset in
+    let f : flags ≡ n = after ∙ ap (λ (s : Standing). flags_after s.flags set unset) at in
+    let no : false ≡ goes_full sizes row n = full row at ∙ ap (goes_full sizes row) f in
+    let P : Bool → Type 0 = λ b. Leads takes out (replies old.guest (cond b (tells_place row.window (whole_desktop sizes) false ∷ []) [])) out in
+    record {
+      rows = edited row found
+          ∙ ap (λ k. with_row (record row { flags = k }) old) f
+          ∙ ap (λ b. with_row (cond b (placed_at (whole_desktop sizes) (record row { flags = n })) (record row { flags = n })) old) no;
+      told = subst P no refl;
+    }

@@ -3,7 +3,7 @@ pub mod TableLemmas
 pub mod RowChanges
 pub mod KeptLemmas
 pub mod EditLemmas
-pub mod DrawLemmas
+pub mod ColourLemmas
 pub mod UseLemmas
 pub mod ReadLemmas
 pub mod AreaLemmas

@@ -17,13 +17,13 @@ use Rattle.window_table.specs.Entries.{Entry, TableView, AreApart, entry_at, upd
 use Rattle.guest_session.specs.SessionView.{IsPlace}
 use Rattle.guest_session.specs.RowsView.{RowsView, AreKept, HasFitDump, StaysInside, own_row, own_rows, viewed, with_row}
 use Rattle.guest_session.specs.Areas.{Covers, dump_of, dump_at}
-use Rattle.guest_session.specs.Reading.{ReadsAs, area_loads, drawn_by, rect_of, tiles_drawn}
-use Rattle.guest_session.specs.Drawing.{Draws, clipped_to, needed, read_into, width_in}
+use Rattle.guest_session.specs.Reading.{ReadsAs, area_loads, drawn_by, rect_of, tiles_coloured}
+use Rattle.guest_session.specs.ReadTiles.{ReadsTiles, clipped_to, needed, read_into, width_in}
 use Rattle.guest_session.proofs.GridLemmas.{grid-narrow}
 use Rattle.guest_session.proofs.TableLemmas.{HasSlot}
 use Rattle.guest_session.proofs.RowChanges.{KeepsOthers}
 use Rattle.guest_session.proofs.KeptLemmas.{kept-at, kept-updated, row-is, viewed-updated}
-use Rattle.guest_session.proofs.DrawLemmas.{area-long, read-own, read-others, read-outside, read-owned, read-left}
+use Rattle.guest_session.proofs.ColourLemmas.{area-long, read-own, read-others, read-outside, read-owned, read-left}
 use Rattle.guest_session.proofs.UseLemmas.{in-use, needs, row-agrees}
 
 -- ---- the exits of a reading
@@ -32,20 +32,20 @@ use Rattle.guest_session.proofs.UseLemmas.{in-use, needs, row-agrees}
 pub record IsEmpty (a : Area) : Type 0 where
   pub points_none : points a ≡ []
   pub tiles_none : tiles_met (rect_of a) ≡ []
-  pub drawn_none : drawn_by a ≡ None
+  pub read_none : drawn_by a ≡ None
 
 flat : (a : Area) → a.w ≡ 0 → IsEmpty a
 flat a e = record {
   points_none = ap (λ n. grid a.x a.y n a.h) e ∙ grid-narrow a.x a.y a.h;
   tiles_none = ap (λ n. grid (a.x / 64) (a.y / 64) (tiles_along a.x n) (tiles_along a.y a.h)) e ∙ grid-narrow (a.x / 64) (a.y / 64) (tiles_along a.y a.h);
-  drawn_none = ap (λ n. cond (eqb n 0 || eqb a.h 0) None (Some (rect_of a))) e;
+  read_none = ap (λ n. cond (eqb n 0 || eqb a.h 0) None (Some (rect_of a))) e;
 }
 
 low : (a : Area) → a.h ≡ 0 → IsEmpty a
 low a e = record {
   points_none = ap (λ n. grid a.x a.y a.w n) e;
   tiles_none = ap (λ n. grid (a.x / 64) (a.y / 64) (tiles_along a.x a.w) (tiles_along a.y n)) e;
-  drawn_none = ap (λ n. cond (eqb a.w 0 || eqb n 0) None (Some (rect_of a))) e ∙ by (eqb a.w 0);
+  read_none = ap (λ n. cond (eqb a.w 0 || eqb n 0) None (Some (rect_of a))) e ∙ by (eqb a.w 0);
 }
   where
     by : (b : Bool) → cond (b || true) None (Some (rect_of a)) ≡ None
@@ -63,16 +63,16 @@ loads-none : (port : PortState) (dump : Option DumpOf) (a : Area) → points a �
 loads-none port None a none = refl
 loads-none port (Some dump) a none = ap (λ ps. let l = load_all port (frame_places (Some dump) ps) in l.port) none
 
-pub draws-empty : (port : PortState) (tiles : TilesView) (slot : ℕ) (dump : Option DumpOf) (a : Area) → IsEmpty a →
-    Draws port port tiles tiles (Ok None) slot dump a (nat_lt (tiles.number - length tiles.held) (needed slot a tiles.held))
-draws-empty port tiles slot dump a empty =
-    let P : Bool → Type 0 = λ b. Draws port port tiles tiles (Ok None) slot dump a b in
+pub reads_tiles-empty : (port : PortState) (tiles : TilesView) (slot : ℕ) (dump : Option DumpOf) (a : Area) → IsEmpty a →
+    ReadsTiles port port tiles tiles (Ok None) slot dump a (nat_lt (tiles.number - length tiles.held) (needed slot a tiles.held))
+reads_tiles-empty port tiles slot dump a empty =
+    let P : Bool → Type 0 = λ b. ReadsTiles port port tiles tiles (Ok None) slot dump a b in
     let none : needed slot a tiles.held ≡ 0 = ap (λ ps. missing slot ps tiles.held) empty.tiles_none in
     subst P (sym (ap (nat_lt (tiles.number - length tiles.held)) none ∙ le-ltb (tiles.number - length tiles.held) 0 (omega arith)))
     (record {
-      answer = ap Ok (sym empty.drawn_none);
+      answer = ap Ok (sym empty.read_none);
       tiles = ap (λ ts. let t : TilesView = record { number = tiles.number; held = ts } in t)
-          (sym (ap (λ ps. tiles_drawn slot ps (area_loads port dump a).words (opened slot (tiles_met (rect_of a)) tiles.held)) empty.points_none
+          (sym (ap (λ ps. tiles_coloured slot ps (area_loads port dump a).words (opened slot (tiles_met (rect_of a)) tiles.held)) empty.points_none
           ∙ ap (λ ps. opened slot ps tiles.held) empty.tiles_none));
       frames = sym (loads-none port dump a empty.points_none);
     })
@@ -83,15 +83,15 @@ pub clipped-same : (row : Row) (dump : Option DumpOf) (x y w h : ℕ) → clippe
 clipped-same row None x y w h = refl
 clipped-same row (Some dump) x y w h = refl
 
-clip-right : (place : Rect) (dump : Option DumpOf) (x y w h : ℕ) → 0 < (clipped_to place (size_of_dump dump) x y w h).w →
+clipped-right : (place : Rect) (dump : Option DumpOf) (x y w h : ℕ) → 0 < (clipped_to place (size_of_dump dump) x y w h).w →
     (clipped_to place (size_of_dump dump) x y w h).x + (clipped_to place (size_of_dump dump) x y w h).w ≤ place.w
-clip-right place None x y w h some = absurd (omega arith)
-clip-right place (Some dump) x y w h some = omega (arith, some)
+clipped-right place None x y w h some = absurd (omega arith)
+clipped-right place (Some dump) x y w h some = omega (arith, some)
 
-clip-below : (place : Rect) (dump : Option DumpOf) (x y w h : ℕ) → 0 < (clipped_to place (size_of_dump dump) x y w h).h →
+clipped-below : (place : Rect) (dump : Option DumpOf) (x y w h : ℕ) → 0 < (clipped_to place (size_of_dump dump) x y w h).h →
     (clipped_to place (size_of_dump dump) x y w h).y + (clipped_to place (size_of_dump dump) x y w h).h ≤ place.h
-clip-below place None x y w h some = absurd (omega arith)
-clip-below place (Some dump) x y w h some = omega (arith, some)
+clipped-below place None x y w h some = absurd (omega arith)
+clipped-below place (Some dump) x y w h some = omega (arith, some)
 
 covers-by : (pages slot : ℕ) (entries : List Entry) (place : Rect) (dump : Option DumpOf) (x y w h : ℕ) → dump_at slot entries ≡ dump → HasFitDump pages dump →
     0 < (clipped_to place (size_of_dump dump) x y w h).w → 0 < (clipped_to place (size_of_dump dump) x y w h).h →
@@ -187,8 +187,8 @@ area-in e place size a x y w h port placed sized area =
     let is : a ≡ clipped_to e.pane.place (size_of_dump e.dump) x y w h = area ∙ ap (λ p. clipped_to p size x y w h) (sym placed) ∙ ap (λ s. clipped_to e.pane.place s x y w h) (sym sized) in
     let P : Area → Type 0 = λ b. ReadsIn e b (area_loads port e.dump b).words in
     subst P (sym is) (record {
-      right = clip-right e.pane.place e.dump x y w h;
-      below = clip-below e.pane.place e.dump x y w h;
+      right = clipped-right e.pane.place e.dump x y w h;
+      below = clipped-below e.pane.place e.dump x y w h;
       long = by e.dump;
     })
   where
@@ -212,56 +212,56 @@ verdict-is guest window slot table tiles h a port all sizes same =
     ∙ ap (λ n. cond (nat_lt (tiles.number - length tiles.held) n) (Ends (PixelBudget n (tiles.number - length tiles.held))) (Reads row a)) need
 
 reads-by : (guest window slot : ℕ) (table : TableView) (tiles tiles' : TilesView) (h : HasSlot window slot table.entries) (a : Area) (port port' : PortState) (result : Result (Option Rect) Cause) (b : Bool) →
-    ReadsSlot window slot table tiles h a port → Draws port port' tiles tiles' result slot h.entry.dump a b →
+    ReadsSlot window slot table tiles h a port → ReadsTiles port port' tiles tiles' result slot h.entry.dump a b →
     ReadsAs port port' (viewed guest table tiles) (viewed guest table tiles') result
     (cond b (Ends (PixelBudget (needed slot a tiles.held) (tiles.number - length tiles.held))) (Reads (own_row guest tiles.held h.entry) a))
-reads-by guest window slot table tiles tiles' h a port port' result true all draws =
-    record { answer = draws.answer; rows = ap (viewed guest table) draws.tiles; unread = draws.unread }
-reads-by guest window slot table tiles tiles' h a port port' result false all draws = record {
-  answer = draws.answer;
-  rows = viewed-read guest window slot table tiles tiles' h all.apart all.whole a (area_loads port h.entry.dump a).words all.in_row draws.tiles;
-  frames = draws.frames;
+reads-by guest window slot table tiles tiles' h a port port' result true all filled =
+    record { answer = filled.answer; rows = ap (viewed guest table) filled.tiles; unread = filled.unread }
+reads-by guest window slot table tiles tiles' h a port port' result false all filled = record {
+  answer = filled.answer;
+  rows = viewed-read guest window slot table tiles tiles' h all.apart all.whole a (area_loads port h.entry.dump a).words all.in_row filled.tiles;
+  frames = filled.frames;
 }
 
 -- what became of an SHMIMAGE
 pub reads-as : (guest window slot : ℕ) (table : TableView) (tiles tiles' : TilesView) (h : HasSlot window slot table.entries) (a : Area) (port port' : PortState) (result : Result (Option Rect) Cause) →
     ReadsSlot window slot table tiles h a port →
-    Draws port port' tiles tiles' result slot (dump_at slot table.entries) a (nat_lt (tiles.number - length tiles.held) (needed slot a tiles.held)) →
+    ReadsTiles port port' tiles tiles' result slot (dump_at slot table.entries) a (nat_lt (tiles.number - length tiles.held) (needed slot a tiles.held)) →
     (sizes : Sizes) → sizes.tiles ≡ tiles.number →
     ReadsAs port port' (viewed guest table tiles) (viewed guest table tiles') result (reads sizes (own_rows guest tiles.held table.entries) (own_row guest tiles.held h.entry) a)
-reads-as guest window slot table tiles tiles' h a port port' result all draws sizes same =
+reads-as guest window slot table tiles tiles' h a port port' result all filled sizes same =
     let b : Bool = nat_lt (tiles.number - length tiles.held) (needed slot a tiles.held) in
-    let D : Option DumpOf → Type 0 = λ d. Draws port port' tiles tiles' result slot d a b in
+    let D : Option DumpOf → Type 0 = λ d. ReadsTiles port port' tiles tiles' result slot d a b in
     let V : Verdict → Type 0 = λ v. ReadsAs port port' (viewed guest table tiles) (viewed guest table tiles') result v in
     subst V (sym (verdict-is guest window slot table tiles h a port all sizes same))
-    (reads-by guest window slot table tiles tiles' h a port port' result b all (subst D (ap dump_of h.at_slot) draws))
+    (reads-by guest window slot table tiles tiles' h a port port' result b all (subst D (ap dump_of h.at_slot) filled))
 
 kept-by : (window slot : ℕ) (table : TableView) (tiles tiles' : TilesView) (h : HasSlot window slot table.entries) (a : Area) (port port' : PortState) (result : Result (Option Rect) Cause) (b : Bool) →
-    ReadsSlot window slot table tiles h a port → Draws port port' tiles tiles' result slot h.entry.dump a b → AreKept table tiles'.held
-kept-by window slot table tiles tiles' h a port port' result true all draws =
+    ReadsSlot window slot table tiles h a port → ReadsTiles port port' tiles tiles' result slot h.entry.dump a b → AreKept table tiles'.held
+kept-by window slot table tiles tiles' h a port port' result true all filled =
     let P : TilesView → Type 0 = λ t. AreKept table t.held in
-    subst P (sym draws.tiles) all.kept
-kept-by window slot table tiles tiles' h a port port' result false all draws =
+    subst P (sym filled.tiles) all.kept
+kept-by window slot table tiles tiles' h a port port' result false all filled =
     let P : TilesView → Type 0 = λ t. AreKept table t.held in
-    subst P (sym draws.tiles) (kept-read window slot table tiles.held h all.apart all.kept all.whole a (area_loads port h.entry.dump a).words all.in_row)
+    subst P (sym filled.tiles) (kept-read window slot table tiles.held h all.apart all.kept all.whole a (area_loads port h.entry.dump a).words all.in_row)
 
 -- and what is kept
 pub reads-kept : (window slot : ℕ) (table : TableView) (tiles tiles' : TilesView) (h : HasSlot window slot table.entries) (a : Area) (port port' : PortState) (result : Result (Option Rect) Cause) →
     ReadsSlot window slot table tiles h a port →
-    Draws port port' tiles tiles' result slot (dump_at slot table.entries) a (nat_lt (tiles.number - length tiles.held) (needed slot a tiles.held)) → AreKept table tiles'.held
-reads-kept window slot table tiles tiles' h a port port' result all draws =
+    ReadsTiles port port' tiles tiles' result slot (dump_at slot table.entries) a (nat_lt (tiles.number - length tiles.held) (needed slot a tiles.held)) → AreKept table tiles'.held
+reads-kept window slot table tiles tiles' h a port port' result all filled =
     let b : Bool = nat_lt (tiles.number - length tiles.held) (needed slot a tiles.held) in
-    let D : Option DumpOf → Type 0 = λ d. Draws port port' tiles tiles' result slot d a b in
-    kept-by window slot table tiles tiles' h a port port' result b all (subst D (ap dump_of h.at_slot) draws)
+    let D : Option DumpOf → Type 0 = λ d. ReadsTiles port port' tiles tiles' result slot d a b in
+    kept-by window slot table tiles tiles' h a port port' result b all (subst D (ap dump_of h.at_slot) filled)
 
 -- what became of a window's row, as the code has it
 pub reads-row : (guest window slot : ℕ) (table : TableView) (tiles tiles' : TilesView) (v : RowsView) (h : HasSlot window slot table.entries) (place : Rect) (size : Option DumpSize) (a : Area) (x y w l : ℕ)
     (state state' : ℕ → PortState) (result : Result (Option Rect) Cause) → viewed guest table tiles ≡ v → h.entry.pane.place ≡ place → size_of_dump h.entry.dump ≡ size → a ≡ clipped_to place size x y w l →
     ReadsSlot window slot table tiles h a (state guest) →
-    Draws (state guest) (state' guest) tiles tiles' result slot (dump_at slot table.entries) a (nat_lt (tiles.number - length tiles.held) (needed slot a tiles.held)) →
+    ReadsTiles (state guest) (state' guest) tiles tiles' result slot (dump_at slot table.entries) a (nat_lt (tiles.number - length tiles.held) (needed slot a tiles.held)) →
     (sizes : Sizes) → sizes.tiles ≡ v.tiles → (row : Row) → row_with window v.rows ≡ Some row →
     ReadsAs (state v.guest) (state' v.guest) v (viewed guest table tiles') result (reads sizes v.rows row (clipped row row.dump x y w l))
-reads-row guest window slot table tiles tiles' v h place size a x y w l state state' result is placed sized area all draws sizes same row found =
+reads-row guest window slot table tiles tiles' v h place size a x y w l state state' result is placed sized area all filled sizes same row found =
     let own = own_row guest tiles.held h.entry in
     let whole : a ≡ clipped own own.dump x y w l =
     area ∙ ap (λ p. clipped_to p size x y w l) (sym placed) ∙ ap (λ s. clipped_to h.entry.pane.place s x y w l) (sym sized) ∙ sym (clipped-same own h.entry.dump x y w l) in
@@ -271,4 +271,4 @@ reads-row guest window slot table tiles tiles' v h place size a x y w l state st
     let V : RowsView → Type 0 = λ u. ReadsAs (state u.guest) (state' u.guest) u (viewed guest table tiles') result (reads sizes u.rows row (clipped row row.dump x y w l)) in
     subst V is
     (subst R (row-is guest window slot table tiles v h row is found)
-    (subst A whole (reads-as guest window slot table tiles tiles' h a (state guest) (state' guest) result all draws sizes number)))
+    (subst A whole (reads-as guest window slot table tiles tiles' h a (state guest) (state' guest) result all filled sizes number)))

@@ -18,7 +18,7 @@ use Rattle.guest_session.specs.RowsView.{StaysInside, is_owned, own_row, own_row
 use Rattle.guest_session.proofs.GridLemmas.{grid_row}
 use Rattle.guest_session.proofs.TableLemmas.{keyed, apart-head, apart-tail}
 use Rattle.guest_session.proofs.KeptLemmas.{content-seen}
-use Rattle.guest_session.proofs.DrawLemmas.{some-along}
+use Rattle.guest_session.proofs.ColourLemmas.{some-along}
 
 -- ---- tiles in use
 

@@ -5,12 +5,12 @@ use Rattle.desk_laws.specs.Frames.{PortState, load_all}
 use Rattle.desk_laws.specs.Effects.{Area, frame_places}
 use Rattle.tile_store.specs.declared.shelf.Tile.{Tile}
 use Rattle.window_table.specs.Entries.{Entry, entry_at}
-use Rattle.guest_session.specs.declared.read.Area as read
+use Rattle.guest_session.specs.declared.read.Reported.{Reported}
 use Rattle.guest_session.specs.RowsView.{FitsDump}
-use Rattle.guest_session.specs.Reading.{tiles_drawn}
+use Rattle.guest_session.specs.Reading.{tiles_coloured}
 
 -- the area as the definitions have it
-abbrev pub area_in : read.Area → Area
+abbrev pub area_in : Reported → Area
 area_in area = record { x = area.x; y = area.y; w = area.w; h = area.h }
 
 -- the dump of an entry, if there is one
@@ -41,7 +41,7 @@ pixel_at x y = record { x = x; y = y; w = 1; h = 1 }
 
 -- the tiles once these pixels of a slot were read from a dump, one after the other
 abbrev pub tiles_read : ℕ → Option DumpOf → List (ℕ × ℕ) → PortState → List Tile → List Tile
-tiles_read slot dump ps port held = tiles_drawn slot ps (load_all port (frame_places dump ps)).words held
+tiles_read slot dump ps port held = tiles_coloured slot ps (load_all port (frame_places dump ps)).words held
 
 -- the frames once these pixels were read from a dump, one after the other
 abbrev pub frames_read : Option DumpOf → List (ℕ × ℕ) → PortState → PortState

@@ -2,12 +2,12 @@ pub mod SessionView
 pub mod Panes
 pub mod Clips
 pub mod Turns
-pub mod Numbers
 pub mod RowsView
+pub mod Desk
 pub mod Edits
 pub mod Placing
 pub mod Obeyed
 pub mod Parts
 pub mod Reading
-pub mod Drawing
+pub mod ReadTiles
 pub mod Areas

@@ -3,6 +3,7 @@ use Rattle.std.specs.Prelude.{◌≡◌, ℕ, ◌+◌, ◌≤◌, ◌<◌, ◌^�
 use Rattle.gui_num.specs.declared.Rect.{Rect}
 use Rattle.gui_wire.specs.Seen.{references}
 use Rattle.desk_laws.specs.declared.cause.Cause.{Cause}
+use Rattle.desk_laws.specs.declared.limits.TheConstants.{MAX_WINDOWS}
 use Rattle.desk_laws.specs.Sizes.{Sizes}
 use Rattle.desk_laws.specs.Rows.{Row, row_with}
 use Rattle.desk_laws.specs.Frames.{PortState}
@@ -87,7 +88,7 @@ Obeyed takes out out' port port' old new result sizes minor window command =
 -- a command that can be obeyed: what it needs of the rows, and of itself
 abbrev pub CanObey : RowsView → ℕ → Command → Type 0
 CanObey rows window (Create rect parent override_redirect) =
-    (row_with window rows.rows ≡ None) × (length rows.rows < 1024) × IsPlace rect
+    (row_with window rows.rows ≡ None) × (length rows.rows < MAX_WINDOWS) × IsPlace rect
 CanObey rows window (Configure rect override_redirect) = IsPlace rect
 CanObey rows window (Shmimage x y width height) = (x < 2 ^ 31) × (y < 2 ^ 31) × (width < 2 ^ 31) × (height < 2 ^ 31)
 CanObey rows window (Name text) = length text.now ≤ 128
@@ -110,7 +111,7 @@ pub record Accepted {O : Type 0} (takes : O → Post → O → Type 0) (out out'
   pub unread : port' ≡ port
 
 -- an area was read, and nothing was answered
-pub record Drew {O : Type 0} (out out' : O) (port port' : PortState) (old new : RowsView) (result : Result (Option Rect) Cause) (row : Row) (area : Area) : Type 0 where
+pub record HasRead {O : Type 0} (out out' : O) (port port' : PortState) (old new : RowsView) (result : Result (Option Rect) Cause) (row : Row) (area : Area) : Type 0 where
   pub read : ReadsArea port port' old new result row area
   pub silent : out' ≡ out
 
@@ -119,4 +120,4 @@ abbrev pub Carries : {O : Type 0} → (O → Post → O → Type 0) → O → O 
 Carries takes out out' port port' old new result (Ends cause) = Refused out out' port port' old new result cause
 Carries takes out out' port port' old new result (Greets minor answers) = ⊥
 Carries takes out out' port port' old new result (Goes change answers) = Accepted takes out out' port port' old new result change answers
-Carries takes out out' port port' old new result (Reads row area) = Drew out out' port port' old new result row area
+Carries takes out out' port port' old new result (Reads row area) = HasRead out out' port port' old new result row area

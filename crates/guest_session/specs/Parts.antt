@@ -1,14 +1,12 @@
 -- The parts of a session, and the session that they are.
-use Rattle.std.specs.Prelude.{◌≡◌, ℕ, Option, Some, None}
+use Rattle.std.specs.Prelude.{ℕ, Option, Some, None}
 use Rattle.gui_wire.specs.declared.WireFault.{WireFault}
 use Rattle.gui_wire.specs.declared.WireFault.TheVariants.{Kind, Length}
 use Rattle.desk_laws.specs.declared.cause.Cause.{Cause}
 use Rattle.desk_laws.specs.declared.cause.Cause.TheVariants.{BadType, BadLength}
 use Rattle.desk_laws.specs.Sizes.{Sizes}
 use Rattle.in_stream.specs.Received.{Received}
-use Rattle.guest_session.specs.declared.numbers.Numbers.{Numbers}
 use Rattle.guest_session.specs.declared.turn.Turn.{Turn}
-use Rattle.guest_session.specs.Numbers.{FitDesk}
 use Rattle.guest_session.specs.declared.turn.Turn.TheVariants.{Ended}
 use Rattle.guest_session.specs.RowsView.{RowsView}
 use Rattle.guest_session.specs.SessionView.{SessionView}
@@ -23,12 +21,6 @@ joined sizes stream rows minor ended = record {
   minor = minor;
   ended = ended;
 }
-
--- the numbers fit a desktop, and the rows are held to the same numbers of pages and tiles
-pub record AreJoined (numbers : Numbers) (rows : RowsView) : Type 0 where
-  pub desk : FitDesk numbers
-  pub pages : numbers.pages ≡ rows.pages
-  pub tiles : numbers.tiles ≡ rows.tiles
 
 -- why a session ended in this turn, if it did
 abbrev pub ended_by : Turn → Option Cause

@@ -7,7 +7,7 @@ use Rattle.desk_laws.specs.Override.{Placement, effective, taken_besides}
 use Rattle.desk_laws.specs.Effects.{goes_full, whole_desktop, tells_place}
 use Rattle.guest_session.specs.declared.rows.Standing.{Standing}
 
--- the most pixels that override windows are counted to take: more than any desktop has
+-- the most pixels that override-redirect windows are counted to take: more than any desktop has
 abbrev pub most_taken : ℕ
 most_taken = 2 ^ 32
 

@@ -28,11 +28,11 @@ content_in None x y = None
 content_in (Some row) x y = content_at row x y
 
 -- the tiles once these pixels of a slot got the colours of these words, one after the other
-abbrev pub tiles_drawn : ℕ → List (ℕ × ℕ) → List ℕ → List Tile → List Tile
-tiles_drawn slot [] words held = held
-tiles_drawn slot (p ∷ ps) [] held = held
-tiles_drawn slot (p ∷ ps) (w ∷ ws) held =
-    tiles_drawn slot ps ws (written (spot_of slot (p.0 / 64, p.1 / 64)) (p.1 % 64 * 64 + p.0 % 64) (w % 2 ^ 24) held)
+abbrev pub tiles_coloured : ℕ → List (ℕ × ℕ) → List ℕ → List Tile → List Tile
+tiles_coloured slot [] words held = held
+tiles_coloured slot (p ∷ ps) [] held = held
+tiles_coloured slot (p ∷ ps) (w ∷ ws) held =
+    tiles_coloured slot ps ws (written (spot_of slot (p.0 / 64, p.1 / 64)) (p.1 % 64 * 64 + p.0 % 64) (w % 2 ^ 24) held)
 
 -- nothing was read, since too many tiles would be taken
 pub record ReadsNothing (port port' : PortState) (old new : RowsView) (result : Result (Option Rect) Cause) (cause : Cause) : Type 0 where

@@ -1,6 +1,8 @@
 -- The rows of one guest: the entries of a table with what was read into tiles.
 use Rattle.std.specs.Prelude.{ℕ, ◌≡◌, ◌≤◌, ◌<◌, Bool, true, false, ◌&&◌, nat_lt, List, map, length, Option, Some, None, is_some}
 use Rattle.std.specs.List.{All, list_all}
+use Rattle.gui_wire.specs.declared.limits.TheConstants.{MAX_WINDOW_HEIGHT, MAX_WINDOW_WIDTH}
+use Rattle.desk_laws.specs.declared.limits.TheConstants.{MAX_PAGES}
 use Rattle.desk_laws.specs.Rows.{Row, DumpOf, grid}
 use Rattle.desk_laws.specs.Effects.{Change, Replaced, changed, pages_for}
 use Rattle.window_table.specs.Entries.{Entry, TableView, entry_at, row_of}
@@ -40,8 +42,8 @@ viewed guest table tiles = record {
 
 -- the references of a dump of this size, in a guest with so many pages
 pub record FitsDump (pages width height : ℕ) (refs : List ℕ) : Type 0 where
-  pub wide : width ≤ 16384
-  pub high : height ≤ 6144
+  pub wide : width ≤ MAX_WINDOW_WIDTH
+  pub high : height ≤ MAX_WINDOW_HEIGHT
   pub count : length refs ≡ pages_for width height
   pub below : All (λ ref. ref < pages) refs
 
@@ -61,7 +63,7 @@ StaysInside held e = (x y : ℕ) → (nat_lt x e.pane.place.w && nat_lt y e.pane
 -- the number of pages is in range, the places are, and the dumps fit; each tile that is held is of an
 -- entry's slot and has a pixel, and what was read lies inside its window
 pub record AreKept (table : TableView) (held : List Tile) : Type 0 where
-  pub pages : table.pages ≤ 16384
+  pub pages : table.pages ≤ MAX_PAGES
   pub placed : All (λ e. IsPlace e.pane.place) table.entries
   pub dumps : All (λ e. HasFitDump table.pages e.dump) table.entries
   pub owned : list_all (is_owned table.entries) held ≡ true

@@ -2,13 +2,15 @@
 use Rattle.std.specs.Prelude.{◌≡◌, ℕ, ◌≤◌, true, List, [], length, map, Option, Some, None, pos, negsuc, ◌≤ℤ◌}
 use Rattle.std.specs.List.{All}
 use Rattle.gui_num.specs.declared.Rect.{Rect}
+use Rattle.gui_wire.specs.declared.limits.TheConstants.{MAX_WINDOW_HEIGHT, MAX_WINDOW_WIDTH}
+use Rattle.desk_laws.specs.declared.limits.TheConstants.{MAX_WINDOWS}
 use Rattle.desk_laws.specs.declared.cause.Cause.{Cause}
 use Rattle.desk_laws.specs.Sizes.{Sizes}
 use Rattle.desk_laws.specs.Rows.{Row, id_of}
 use Rattle.desk_laws.specs.Layers.{are_apart}
 use Rattle.in_stream.specs.Received.{Received}
 
--- a session: its guest, the numbers of the setup, the bytes that were taken and not yet let go, the
+-- a session: its guest, the numbers of the setup, the bytes that were taken and not yet dropped, the
 -- guest's rows in the order of their CREATE, its minor version, and why it ended, if it did
 pub record SessionView : Type 0 where
   pub guest : ℕ
@@ -18,22 +20,22 @@ pub record SessionView : Type 0 where
   pub minor : ℕ
   pub ended : Option Cause
 
--- a place in range: from -32768 to 32767, and a size from 1 by 1 to 16384 by 6144
+-- a place in range: from -32768 to 32767, and a size from 1 by 1 to that of the greatest window
 pub record IsPlace (place : Rect) : Type 0 where
   pub x_low : negsuc 32767 ≤ℤ place.x
   pub x_high : place.x ≤ℤ pos 32767
   pub y_low : negsuc 32767 ≤ℤ place.y
   pub y_high : place.y ≤ℤ pos 32767
   pub w_low : 1 ≤ place.w
-  pub w_high : place.w ≤ 16384
+  pub w_high : place.w ≤ MAX_WINDOW_WIDTH
   pub h_low : 1 ≤ place.h
-  pub h_high : place.h ≤ 6144
+  pub h_high : place.h ≤ MAX_WINDOW_HEIGHT
 
--- at most 1024 rows of this guest, no two of one window, their places in range
+-- rows of this guest, no more than it may have windows, no two of one window, their places in range
 pub record AreRows (guest : ℕ) (rows : List Row) : Type 0 where
   pub own : All (λ row. row.guest ≡ guest) rows
   pub apart : are_apart (map id_of rows) ≡ true
-  pub few : length rows ≤ 1024
+  pub few : length rows ≤ MAX_WINDOWS
   pub placed : All (λ row. IsPlace row.place) rows
 
 -- the rows of a session

@@ -1,6 +1,7 @@
 -- What a turn of a session does.
 use Rattle.std.specs.Prelude.{◌≡◌, ℕ, Bool, true, false, nat_le, List, length, Option, None, if◌then◌else◌}
 use Rattle.gui_num.specs.declared.Rect.{Rect}
+use Rattle.gui_wire.specs.declared.limits.TheConstants.{MAX_CLIPBOARD_SIZE}
 use Rattle.desk_laws.specs.declared.cause.Cause.{Cause}
 use Rattle.desk_laws.specs.Stream as cut
 use Rattle.desk_laws.specs.Stream.{StreamUnit, Word, Stop, Whole, Front, Fault, Takes}
@@ -29,7 +30,7 @@ pub record EndsFor {O : Type 0} (out out' : O) (port port' : PortState) (old new
   pub unread : port' ≡ port
 
 -- a unit had this effect: the guest was answered, the minor version, the rows and the frames are the
--- effect's, the unit was let go, and all else is as before
+-- effect's, the unit was dropped, and all else is as before
 pub record HadEffect {O : Type 0} (takes : O → Post → O → Type 0) (out out' : O) (port' : PortState) (old new : SessionView) (turn : Turn) (window : ℕ) (drawn : Option Rect) (e : Effect) (behind : List ℕ) : Type 0 where
   pub answer : turn ≡ Changed window drawn
   pub told : Leads takes out (replies old.guest e.answers) out'
@@ -50,7 +51,7 @@ Decides takes out out' port port' old new turn window behind (Reads row area) =
 
 -- what a turn answers where clipboard data stands in front: whether its body is kept
 abbrev pub clip_turn : List ℕ → Turn
-clip_turn body = if nat_le (length body) 65000 then ClipWhole else ClipOver
+clip_turn body = if nat_le (length body) MAX_CLIPBOARD_SIZE then ClipWhole else ClipOver
 
 -- the window of a unit, 0 for the version word
 abbrev pub window_of : StreamUnit → ℕ

@@ -4,10 +4,8 @@ ghost use Rattle.guest_session.specs.Edits.{FitsEdit, pane_edited};
 
 use crate::text::text_of;
 use gui_num::Rect;
+use gui_wire::WINDOW_FLAG_MINIMIZE;
 use window_table::Pane;
-
-// The flag of a window that is minimized.
-const MINIMIZE: u32 = 4;
 
 // What changes.
 #[derive(Clone, Copy)]
@@ -74,7 +72,7 @@ pub(crate) fn edit_pane(pane: &mut Pane, edit: &Edit<'_>)
         Edit::Unmap => {
             pane.mapped = false;
             pane.over = false;
-            pane.flags -= pane.flags & MINIMIZE;
+            pane.flags -= pane.flags & WINDOW_FLAG_MINIMIZE;
         }
         Edit::Configure { place, asked, over } => {
             pane.place = place;

@@ -5,13 +5,13 @@
 //! All memory is taken as a session is opened.
 #![tactic(auto)]
 
-mod draw;
+mod desk;
 mod edit;
-mod numbers;
 mod obey;
 mod place;
 mod read;
 mod replies;
+mod report;
 mod rows;
 mod session;
 #[cfg(test)]

@@ -2,13 +2,13 @@
 ghost use Rattle.std.specs.Prelude.{◌≡◌, ℕ, ◌<◌, [], ◌∷◌, None, length};
 ghost use Rattle.desk_laws.specs.Stream.{Whole, head_fault};
 ghost use Rattle.desk_laws.specs.Effects.{configured_row, flags_after, mapped_row, tells_move, verdict};
+ghost use Rattle.frame_pool.specs.Ports.{ChangesFrames};
 ghost use Rattle.guest_session.specs.SessionView.{IsPlace};
-ghost use Rattle.guest_session.specs.Numbers.{FitDesk, sizes_in};
+ghost use Rattle.guest_session.specs.Desk.{FitDesk, sizes_in};
 ghost use Rattle.guest_session.specs.Placing.{flagged_row, tells_full, tells_row};
 ghost use Rattle.guest_session.specs.Obeyed.{AnsweredFor, Carries, CanObey, Changes, Obeyed};
 
 use crate::edit::Edit;
-use crate::numbers::Numbers;
 use crate::place::{configured, flags_after, goes_full, placed, whole_desktop};
 use crate::replies::{acknowledge, tell_move, tell_place};
 use crate::rows::Rows;
@@ -18,25 +18,26 @@ use gui_num::Rect;
 use gui_wire::{Header, body_of};
 use io_ports::Outlet;
 use message_checks::Command;
+use redirect_limits::DeskSize;
 
 // Maps a window by the override rule, and tells its place where that changed.
 fn map<O: Outlet>(
     rows: &mut Rows,
-    numbers: &Numbers,
+    desk: &DeskSize,
     window: u32,
     asked: bool,
     transient: u32,
     out: &mut O,
 )
-    requires desk { FitDesk numbers.now }
+    requires fit { FitDesk desk.now }
     ensures { AnsweredFor O.takes out.old out.new rows.old rows.new window
-        (mapped_row (sizes_in numbers.now) rows.old.rows asked transient)
-        (λ row. tells_move row (mapped_row (sizes_in numbers.now) rows.old.rows asked transient row)) }
+        (mapped_row (sizes_in desk.now rows.old) rows.old.rows asked transient)
+        (λ row. tells_move row (mapped_row (sizes_in desk.now rows.old) rows.old.rows asked transient row)) }
 {
     let Some(old) = rows.standing(window) else {
         return;
     };
-    let put = placed(rows, numbers, window, old.place, asked);
+    let put = placed(rows, desk, window, old.place, asked);
     let edit = Edit::Map {
         asked,
         transient,
@@ -51,22 +52,22 @@ fn map<O: Outlet>(
 // Gives a window the place that it asks for, by the override rule where it is mapped, and tells it.
 fn configure<O: Outlet>(
     rows: &mut Rows,
-    numbers: &Numbers,
+    desk: &DeskSize,
     window: u32,
     place: Rect,
     asked: bool,
     out: &mut O,
 )
-    requires desk { FitDesk numbers.now }
+    requires fit { FitDesk desk.now }
     requires place { IsPlace place }
     ensures { AnsweredFor O.takes out.old out.new rows.old rows.new window
-        (configured_row (sizes_in numbers.now) rows.old.rows asked place)
-        (λ row. tells_row (configured_row (sizes_in numbers.now) rows.old.rows asked place row) ∷ []) }
+        (configured_row (sizes_in desk.now rows.old) rows.old.rows asked place)
+        (λ row. tells_row (configured_row (sizes_in desk.now rows.old) rows.old.rows asked place row) ∷ []) }
 {
     let Some(old) = rows.standing(window) else {
         return;
     };
-    let put = configured(rows, numbers, window, old, place, asked);
+    let put = configured(rows, desk, window, old, place, asked);
     let edit = Edit::Configure {
         place: put.rect,
         asked,
@@ -77,25 +78,18 @@ fn configure<O: Outlet>(
 }
 
 // Gives a window these flags. Where they put it on the whole desktop, its place is told.
-fn flag<O: Outlet>(
-    rows: &mut Rows,
-    numbers: &Numbers,
-    window: u32,
-    set: u32,
-    unset: u32,
-    out: &mut O,
-)
-    requires desk { FitDesk numbers.now }
+fn flag<O: Outlet>(rows: &mut Rows, desk: &DeskSize, window: u32, set: u32, unset: u32, out: &mut O)
+    requires fit { FitDesk desk.now }
     ensures { AnsweredFor O.takes out.old out.new rows.old rows.new window
-        (λ row. flagged_row (sizes_in numbers.now) (flags_after row.flags set unset) row)
-        (λ row. tells_full (sizes_in numbers.now) (flags_after row.flags set unset) row) }
+        (λ row. flagged_row (sizes_in desk.now rows.old) (flags_after row.flags set unset) row)
+        (λ row. tells_full (sizes_in desk.now rows.old) (flags_after row.flags set unset) row) }
 {
     let Some(old) = rows.standing(window) else {
         return;
     };
     let flags = flags_after(old.flags, set, unset);
-    if goes_full(old, flags, numbers) {
-        let place = whole_desktop(numbers);
+    if goes_full(old, flags, desk) {
+        let place = whole_desktop(desk);
         rows.edit(window, &Edit::Fill { flags, place });
         tell_place(rows.guest(), window, place, false, out);
     } else {
@@ -107,15 +101,15 @@ fn flag<O: Outlet>(
 // read.
 fn change<O: Outlet>(
     rows: &mut Rows,
-    numbers: &Numbers,
+    desk: &DeskSize,
     minor: u32,
     window: u32,
     command: &Command<'_>,
     out: &mut O,
 )
-    requires desk { FitDesk numbers.now }
+    requires fit { FitDesk desk.now }
     requires can { CanObey rows.old window command.now }
-    ensures { Changes O.takes out.old out.new rows.old rows.new (sizes_in numbers.now) minor window command.now }
+    ensures { Changes O.takes out.old out.new rows.old rows.new (sizes_in desk.now rows.old) minor window command.now }
 {
     match *command {
         Command::Create {
@@ -132,27 +126,20 @@ fn change<O: Outlet>(
             override_redirect,
         } => {
             let transient = rows.known(transient_for);
-            map(
-                rows,
-                numbers,
-                window,
-                override_redirect != 0,
-                transient,
-                out,
-            );
+            map(rows, desk, window, override_redirect != 0, transient, out);
         }
         Command::Unmap => rows.edit(window, &Edit::Unmap),
         Command::Configure {
             rect,
             override_redirect,
-        } => configure(rows, numbers, window, rect, override_redirect != 0, out),
+        } => configure(rows, desk, window, rect, override_redirect != 0, out),
         Command::Name { text } => rows.edit(window, &Edit::Title(text)),
         Command::Dock => rows.edit(window, &Edit::Dock),
         Command::Hints { hints } => rows.edit(window, &Edit::Hints(hints)),
         Command::Flags {
             flags_set,
             flags_unset,
-        } => flag(rows, numbers, window, flags_set, flags_unset, out),
+        } => flag(rows, desk, window, flags_set, flags_unset, out),
         Command::Class { class, name } => rows.edit(window, &Edit::Class { class, name }),
         Command::Dump {
             width,
@@ -172,21 +159,19 @@ fn change<O: Outlet>(
 // the window that was read, if one was, or why none is read.
 fn obey<P: FramePort, O: Outlet>(
     rows: &mut Rows,
-    numbers: &Numbers,
+    desk: &DeskSize,
     minor: u32,
     window: u32,
     command: &Command<'_>,
     port: &mut P,
     out: &mut O,
 ) -> Result<Option<Rect>, Cause>
-    requires desk { FitDesk numbers.now }
+    requires fit { FitDesk desk.now }
     requires guest { rows.old.guest < P.guests port.old }
     requires pages { P.pages port.old ≡ rows.old.pages }
     requires can { CanObey rows.old window command.now }
-    ensures obeyed { Obeyed O.takes out.old out.new (P.state port.old rows.old.guest) (P.state port.new rows.old.guest) rows.old rows.new result (sizes_in numbers.now) minor window command.now }
-    ensures others { (other : ℕ) → (other ≡ rows.old.guest → ⊥) → P.state port.new other ≡ P.state port.old other }
-    ensures guests { P.guests port.new ≡ P.guests port.old }
-    ensures port_pages { P.pages port.new ≡ P.pages port.old }
+    ensures obeyed { Obeyed O.takes out.old out.new (P.state port.old rows.old.guest) (P.state port.new rows.old.guest) rows.old rows.new result (sizes_in desk.now rows.old) minor window command.now }
+    ensures port { ChangesFrames P.guests P.pages P.state rows.old.guest port.old port.new }
 {
     if let Command::Shmimage {
         x,
@@ -197,7 +182,7 @@ fn obey<P: FramePort, O: Outlet>(
     {
         return rows.read(window, x, y, width, height, port);
     }
-    change(rows, numbers, minor, window, command, out);
+    change(rows, desk, minor, window, command, out);
     Ok(None)
 }
 
@@ -206,25 +191,21 @@ fn obey<P: FramePort, O: Outlet>(
 // rectangle of the window that was read, if one was.
 pub(crate) fn take<P: FramePort, O: Outlet>(
     rows: &mut Rows,
-    numbers: &Numbers,
+    desk: &DeskSize,
     minor: u32,
     header: Header,
     body: &[u8],
     port: &mut P,
     out: &mut O,
 ) -> Result<Option<Rect>, Cause>
-    requires desk { FitDesk numbers.now }
-    requires row_pages { numbers.now.pages ≡ rows.old.pages }
-    requires row_tiles { numbers.now.tiles ≡ rows.old.tiles }
+    requires fit { FitDesk desk.now }
     requires len { length body.now ≡ header.len }
     requires taken { head_fault header ≡ None }
     requires guest { rows.old.guest < P.guests port.old }
     requires pages { P.pages port.old ≡ rows.old.pages }
     ensures carries { Carries O.takes out.old out.new (P.state port.old rows.old.guest) (P.state port.new rows.old.guest) rows.old rows.new result
-        (verdict (sizes_in numbers.now) rows.old.guest minor rows.old.rows (Whole header body.now)) }
-    ensures others { (other : ℕ) → (other ≡ rows.old.guest → ⊥) → P.state port.new other ≡ P.state port.old other }
-    ensures guests { P.guests port.new ≡ P.guests port.old }
-    ensures port_pages { P.pages port.new ≡ P.pages port.old }
+        (verdict (sizes_in desk.now rows.old) rows.old.guest minor rows.old.rows (Whole header body.now)) }
+    ensures port { ChangesFrames P.guests P.pages P.state rows.old.guest port.old port.new }
 {
     let msg = match body_of(body, header) {
         Ok(msg) => msg,
@@ -236,7 +217,7 @@ pub(crate) fn take<P: FramePort, O: Outlet>(
         }
     };
     match rows.check(&msg, header) {
-        Ok(command) => obey(rows, numbers, minor, header.window, &command, port, out),
+        Ok(command) => obey(rows, desk, minor, header.window, &command, port, out),
         Err(cause) => Err(cause),
     }
 }

@@ -5,32 +5,21 @@ ghost use Rattle.desk_laws.specs.Override.{effective, taken_besides};
 ghost use Rattle.desk_laws.specs.Effects.{flags_after, goes_full, whole_desktop};
 ghost use Rattle.redirect_limits.specs.Limits.{placed_of};
 ghost use Rattle.guest_session.specs.SessionView.{IsPlace};
-ghost use Rattle.guest_session.specs.Numbers.{FitDesk, sizes_in};
+ghost use Rattle.guest_session.specs.Desk.{FitDesk, sizes_in};
+ghost use Rattle.guest_session.specs.RowsView.{RowsView};
 ghost use Rattle.guest_session.specs.Placing.{configured_to, standing_of};
 
-use crate::numbers::{Numbers, desk_of};
 use crate::rows::{Rows, Standing};
 use gui_num::Rect;
-use redirect_limits::{Placed, effective};
-
-// All flags that there are.
-const KNOWN_FLAGS: u32 = 7;
-
-// The most rows that a window has.
-const MOST_ROWS: u32 = 6144;
+use gui_wire::{MAX_WINDOW_HEIGHT, WINDOW_FLAG_FULLSCREEN, WINDOW_FLAGS};
+use redirect_limits::{DeskSize, Placed, effective};
 
 // Where a mapped window is put that asked for this place, and whether it is an override-redirect
 // window, as is `asked`.
-pub(crate) fn placed(
-    rows: &Rows,
-    numbers: &Numbers,
-    window: u32,
-    place: Rect,
-    asked: bool,
-) -> Placed
-    requires desk { FitDesk numbers.now }
+pub(crate) fn placed(rows: &Rows, desk: &DeskSize, window: u32, place: Rect, asked: bool) -> Placed
+    requires fit { FitDesk desk.now }
     requires place { IsPlace place }
-    ensures rule { placed_of result ≡ effective (sizes_in numbers.now) asked place (taken_besides numbers.now.border window rows.now.rows) }
+    ensures rule { placed_of result ≡ effective (sizes_in desk.now rows.now) asked place (taken_besides desk.now.border window rows.now.rows) }
     ensures place { IsPlace result.rect }
     ensures size { (result.rect.w ≡ place.w) × (result.rect.h ≡ place.h) }
 {
@@ -40,27 +29,27 @@ pub(crate) fn placed(
             over: false,
         };
     }
-    let others = rows.taken_besides(window, numbers.border);
-    effective(asked, place, others, &desk_of(numbers))
+    let others = rows.taken_besides(window, desk.border);
+    effective(asked, place, others, desk)
 }
 
 // Where a window of this standing is put that asks for another place: as `placed` says where it is
 // mapped, and else there.
 pub(crate) fn configured(
     rows: &Rows,
-    numbers: &Numbers,
+    desk: &DeskSize,
     window: u32,
     old: Standing,
     place: Rect,
     asked: bool,
 ) -> Placed
-    requires desk { FitDesk numbers.now }
+    requires fit { FitDesk desk.now }
     requires place { IsPlace place }
-    ensures rule { placed_of result ≡ configured_to (sizes_in numbers.now) rows.now.rows window old asked place }
+    ensures rule { placed_of result ≡ configured_to (sizes_in desk.now rows.now) rows.now.rows window old asked place }
     ensures place { IsPlace result.rect }
 {
     if old.mapped {
-        placed(rows, numbers, window, place, asked)
+        placed(rows, desk, window, place, asked)
     } else {
         Placed {
             rect: place,
@@ -73,35 +62,36 @@ pub(crate) fn configured(
 pub(crate) fn flags_after(flags: u32, set: u32, unset: u32) -> u32
     ensures { result ≡ flags_after flags set unset }
 {
-    ((flags - (flags & unset)) | set) & KNOWN_FLAGS
+    ((flags - (flags & unset)) | set) & WINDOW_FLAGS
 }
 
 // Whether these flags put a window of this standing on the whole desktop: it goes to full screen, it
 // isn't an override-redirect window, and the desktop has room.
-pub(crate) fn goes_full(old: Standing, flags: u32, numbers: &Numbers) -> bool
-    requires desk { FitDesk numbers.now }
-    ensures is { (row : Row) → old ≡ standing_of row → result ≡ goes_full (sizes_in numbers.now) row flags }
-    ensures wide { IsTrue result → 2 * numbers.now.border < numbers.now.width }
-    ensures high { IsTrue result → 2 * numbers.now.border < numbers.now.height }
+pub(crate) fn goes_full(old: Standing, flags: u32, desk: &DeskSize) -> bool
+    requires fit { FitDesk desk.now }
+    ensures is { (rows : RowsView) (row : Row) → old ≡ standing_of row → result ≡ goes_full (sizes_in desk.now rows) row flags }
+    ensures wide { IsTrue result → 2 * desk.now.border < desk.now.width }
+    ensures high { IsTrue result → 2 * desk.now.border < desk.now.height }
 {
-    let newly = old.flags % 2 == 0 && flags % 2 == 1;
-    let wide = 2 * numbers.border < numbers.width;
-    let high = 2 * numbers.border < numbers.height;
+    let newly = old.flags / WINDOW_FLAG_FULLSCREEN % 2 != 1
+        && flags / WINDOW_FLAG_FULLSCREEN % 2 == 1;
+    let wide = 2 * desk.border < desk.width;
+    let high = 2 * desk.border < desk.height;
     (newly && !old.over) && (wide && high)
 }
 
 // The desktop less the border, as high as a window may be.
-pub(crate) fn whole_desktop(numbers: &Numbers) -> Rect
-    requires desk { FitDesk numbers.now }
-    requires wide { 2 * numbers.now.border < numbers.now.width }
-    requires high { 2 * numbers.now.border < numbers.now.height }
-    ensures is { result ≡ whole_desktop (sizes_in numbers.now) }
+pub(crate) fn whole_desktop(desk: &DeskSize) -> Rect
+    requires fit { FitDesk desk.now }
+    requires wide { 2 * desk.now.border < desk.now.width }
+    requires high { 2 * desk.now.border < desk.now.height }
+    ensures is { (rows : RowsView) → result ≡ whole_desktop (sizes_in desk.now rows) }
     ensures place { IsPlace result }
 {
     Rect {
-        x: numbers.border as i32,
-        y: numbers.border as i32,
-        w: numbers.width - 2 * numbers.border,
-        h: MOST_ROWS.min(numbers.height - 2 * numbers.border),
+        x: desk.border as i32,
+        y: desk.border as i32,
+        w: desk.width - 2 * desk.border,
+        h: MAX_WINDOW_HEIGHT.min(desk.height - 2 * desk.border),
     }
 }

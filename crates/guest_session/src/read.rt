@@ -2,20 +2,23 @@
 ghost use Rattle.std.specs.Prelude.{◌≡◌, ℕ, ◌/◌, ◌<◌, true, [], ◌∷◌, Some};
 ghost use Rattle.desk_laws.specs.Rows.{DumpOf};
 ghost use Rattle.desk_laws.specs.Effects.{frame_place, points};
+ghost use Rattle.frame_pool.specs.Ports.{ChangesFrames};
+ghost use Rattle.desk_laws.specs.declared.limits.TheConstants.{PAGE_WORDS};
 ghost use Rattle.tile_store.specs.Spots.{spot_of};
 ghost use Rattle.tile_store.specs.Held.{is_held, places_in_row};
 ghost use Rattle.tile_store.specs.Contents.{HoldsAll, KeepsHeld};
-ghost use Rattle.guest_session.specs.Reading.{rect_of, area_loads, tiles_drawn};
+ghost use Rattle.guest_session.specs.Reading.{rect_of, area_loads, tiles_coloured};
 ghost use Rattle.guest_session.specs.Areas.{Covers, area_in, dump_at, row_in, pixel_at, tiles_read, frames_read};
 
+use desk_laws::PAGE_BYTES;
 use frame_pool::{FramePort, Place};
 use gui_num::Point;
 use tile_store::Tiles;
 use window_table::Table;
 
-// Columns x to x + w and rows y to y + h of a window.
+// What of a window was reported, within its dump and its place: columns x to x + w and rows y to y + h.
 #[derive(Clone, Copy)]
-pub(crate) struct Area {
+pub(crate) struct Reported {
     pub(crate) x: u32,
     pub(crate) y: u32,
     pub(crate) w: u32,
@@ -29,18 +32,16 @@ pub(crate) fn read_area<P: FramePort>(
     table: &Table,
     slot: u32,
     dump_width: u32,
-    area: Area,
+    area: Reported,
     guest: u32,
     port: &mut P,
 )
     requires guest { guest < P.guests port.old }
     requires covers { Covers (P.pages port.old) dump_width (area_in area) (dump_at slot table.now.entries) }
     requires held { HoldsAll slot (rect_of (area_in area)) tiles.old.held }
-    ensures tiles { tiles.new ≡ record tiles.old { held = tiles_drawn slot (points (area_in area)) (area_loads (P.state port.old guest) (dump_at slot table.now.entries) (area_in area)).words tiles.old.held } }
+    ensures tiles { tiles.new ≡ record tiles.old { held = tiles_coloured slot (points (area_in area)) (area_loads (P.state port.old guest) (dump_at slot table.now.entries) (area_in area)).words tiles.old.held } }
     ensures frames { P.state port.new guest ≡ (area_loads (P.state port.old guest) (dump_at slot table.now.entries) (area_in area)).port }
-    ensures others { (other : ℕ) → (other ≡ guest → ⊥) → P.state port.new other ≡ P.state port.old other }
-    ensures guests { P.guests port.new ≡ P.guests port.old }
-    ensures pages { P.pages port.new ≡ P.pages port.old }
+    ensures port { ChangesFrames P.guests P.pages P.state guest port.old port.new }
 {
     let below = area.y + area.h;
     for y in area.y..below {
@@ -54,7 +55,7 @@ fn read_row_of<P: FramePort>(
     table: &Table,
     slot: u32,
     dump_width: u32,
-    area: Area,
+    area: Reported,
     y: u32,
     guest: u32,
     port: &mut P,
@@ -65,9 +66,7 @@ fn read_row_of<P: FramePort>(
     ensures tiles { tiles.new ≡ record tiles.old { held = tiles_read slot (dump_at slot table.now.entries) (places_in_row y area.x area.w) (P.state port.old guest) tiles.old.held } }
     ensures stay { KeepsHeld tiles.old.held tiles.new.held }
     ensures frames { P.state port.new guest ≡ frames_read (dump_at slot table.now.entries) (places_in_row y area.x area.w) (P.state port.old guest) }
-    ensures others { (other : ℕ) → (other ≡ guest → ⊥) → P.state port.new other ≡ P.state port.old other }
-    ensures guests { P.guests port.new ≡ P.guests port.old }
-    ensures pages { P.pages port.new ≡ P.pages port.old }
+    ensures port { ChangesFrames P.guests P.pages P.state guest port.old port.new }
 {
     let past = area.x + area.w;
     for x in area.x..past {
@@ -92,9 +91,7 @@ fn read_pixel<P: FramePort>(
     ensures tiles { tiles.new ≡ record tiles.old { held = tiles_read slot (dump_at slot table.now.entries) ((x, y) ∷ []) (P.state port.old guest) tiles.old.held } }
     ensures stay { KeepsHeld tiles.old.held tiles.new.held }
     ensures frames { P.state port.new guest ≡ frames_read (dump_at slot table.now.entries) ((x, y) ∷ []) (P.state port.old guest) }
-    ensures others { (other : ℕ) → (other ≡ guest → ⊥) → P.state port.new other ≡ P.state port.old other }
-    ensures guests { P.guests port.new ≡ P.guests port.old }
-    ensures pages { P.pages port.new ≡ P.pages port.old }
+    ensures port { ChangesFrames P.guests P.pages P.state guest port.old port.new }
 {
     let place = place_of(table, slot, dump_width, x, y);
     let word = port.load(guest, place);
@@ -105,16 +102,16 @@ fn read_pixel<P: FramePort>(
     tiles.put(slot, p, word % 0x100_0000);
 }
 
-// Where the word of a pixel lies: four bytes a pixel, row by row, 4096 bytes a page.
+// Where the word of a pixel lies: four bytes a pixel, row by row, page after page.
 fn place_of(table: &Table, slot: u32, dump_width: u32, x: u32, y: u32) -> Place
     requires covers { (pages : ℕ) × Covers pages dump_width (pixel_at x y) (dump_at slot table.now.entries) }
     ensures place { (dump : DumpOf) → dump_at slot table.now.entries ≡ Some dump → frame_place dump (x, y) ≡ record { page = result.page; word = result.word } }
     ensures page { (pages : ℕ) → Covers pages dump_width (pixel_at x y) (dump_at slot table.now.entries) → result.page < pages }
-    ensures word { result.word < 1024 }
+    ensures word { result.word < PAGE_WORDS }
 {
     let byte = 4 * (y * dump_width + x);
     Place {
-        page: table.ref_at(slot, byte / 4096),
-        word: byte % 4096 / 4,
+        page: table.ref_at(slot, byte / PAGE_BYTES),
+        word: byte % PAGE_BYTES / 4,
     }
 }

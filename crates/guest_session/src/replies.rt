@@ -4,36 +4,32 @@ ghost use Rattle.desk_laws.specs.Effects as effects;
 ghost use Rattle.desk_laws.specs.Effects.{tells_place, acks, greeting};
 ghost use Rattle.desk_laws.specs.Scene.{Reply, replies};
 ghost use Rattle.io_ports.specs.Posts.{Leads};
-ghost use Rattle.guest_session.specs.Numbers.{sizes_in};
+ghost use Rattle.guest_session.specs.Desk.{sizes_in};
+ghost use Rattle.guest_session.specs.RowsView.{RowsView};
 
-use crate::numbers::Numbers;
+use desk_laws::{DUMP_ACK_MINOR, VERSION_REPLY_MINOR};
 use gui_num::Rect;
 use gui_wire::{DaemonMsg, spell_daemon, spell_word, spell_xconf};
 use io_ports::Outlet;
+use redirect_limits::DeskSize;
 
 // The daemon's version of the Qubes GUI protocol: 1.7.
 const VERSION: u32 = 0x0001_0007;
 
-// The least minor version of an agent that is told the daemon's version.
-const KNOWS_VERSION: u32 = 4;
-
-// The least minor version of an agent whose dumps are acknowledged.
-const KNOWS_DUMP_ACK: u32 = 7;
-
 // Answers a version word: with the daemon's version from minor version 4 on, and with the size of the
 // desktop.
-pub(crate) fn greet<O: Outlet>(guest: u32, numbers: &Numbers, minor: u32, out: &mut O)
-    requires wide { numbers.now.width ≤ 8192 }
-    requires high { numbers.now.height ≤ 8192 }
-    ensures { Leads O.takes out.old (replies guest (greeting (sizes_in numbers.now) minor)) out.new }
+pub(crate) fn greet<O: Outlet>(guest: u32, desk: &DeskSize, minor: u32, out: &mut O)
+    requires wide { desk.now.width ≤ 8192 }
+    requires high { desk.now.height ≤ 8192 }
+    ensures { (rows : RowsView) → Leads O.takes out.old (replies guest (greeting (sizes_in desk.now rows) minor)) out.new }
 {
-    if minor >= KNOWS_VERSION {
+    if minor >= VERSION_REPLY_MINOR {
         let mut version = [0; 4];
         spell_word(VERSION, &mut version);
         out.reply(guest, &version);
     }
     let mut xconf = [0; 16];
-    spell_xconf(numbers.width, numbers.height, &mut xconf);
+    spell_xconf(desk.width, desk.height, &mut xconf);
     out.reply(guest, &xconf);
 }
 
@@ -87,7 +83,7 @@ pub(crate) fn tell_move<O: Outlet>(guest: u32, window: u32, old: Rect, new: Rect
 pub(crate) fn acknowledge<O: Outlet>(guest: u32, window: u32, minor: u32, out: &mut O)
     ensures { Leads O.takes out.old (replies guest (acks minor window)) out.new }
 {
-    if minor >= KNOWS_DUMP_ACK {
+    if minor >= DUMP_ACK_MINOR {
         let mut bytes = [0; 12];
         spell_daemon(window, &DaemonMsg::DumpAck, &mut bytes);
         out.reply(guest, &bytes);

@@ -7,7 +7,10 @@ ghost use Rattle.desk_laws.specs.Sizes.{Sizes};
 ghost use Rattle.desk_laws.specs.Override.{taken_by, taken_besides};
 ghost use Rattle.desk_laws.specs.Effects.{Added, Removed, clipped, created, id_if, reads, refs_besides};
 ghost use Rattle.desk_laws.specs.Checks.{first_cause};
+ghost use Rattle.gui_wire.specs.declared.limits.TheConstants.{MAX_WINDOW_HEIGHT, MAX_WINDOW_WIDTH};
+ghost use Rattle.desk_laws.specs.declared.limits.TheConstants.{MAX_PAGES, MAX_WINDOWS};
 ghost use Rattle.message_checks.specs.Commands.{IsCommandOf};
+ghost use Rattle.frame_pool.specs.Ports.{ChangesFrames};
 ghost use Rattle.guest_session.specs.SessionView.{AreRows, IsPlace};
 ghost use Rattle.guest_session.specs.Panes.{ShowsRow};
 ghost use Rattle.tile_store.specs.Held.{colour_at, swept};
@@ -17,8 +20,8 @@ ghost use Rattle.guest_session.specs.RowsView.{FitsDump, with_change, with_row, 
 ghost use Rattle.guest_session.specs.Edits.{EditsPixels, FitsEdit, row_edited, tiles_edited};
 ghost use Rattle.guest_session.specs.Reading.{ReadsAs, content_in};
 
-use crate::draw::{clip, read_at, width_of};
 use crate::edit::{Edit, edit_pane};
+use crate::report::{clipped, read_at, width_of};
 use desk_laws::{Cause, Ids};
 use frame_pool::FramePort;
 use gui_num::{NoMemory, Point, Rect, area, grow};
@@ -64,7 +67,7 @@ impl Rows {
     // No window, for a guest whose frames have so many pages and whose windows may take so many tiles.
     // It takes all memory that is ever needed.
     pub(crate) fn new(alloc: Global, guest: u32, pages: u32, tiles: u32) -> Result<Rows, NoMemory>
-        requires pages { pages ≤ 16384 }
+        requires pages { pages ≤ MAX_PAGES }
         ensures { IfOk result (λ rows. rows ≡ record { guest = guest; pages = pages; tiles = tiles; rows = [] }) }
     {
         Ok(Rows {
@@ -169,7 +172,7 @@ impl Rows {
     // Adds a window, the last one.
     pub(crate) fn create(&mut self, window: u32, place: Rect, parent: u32, asked: bool)
         requires unknown { row_with window self.old.rows ≡ None }
-        requires room { length self.old.rows < 1024 }
+        requires room { length self.old.rows < MAX_WINDOWS }
         requires place { IsPlace place }
         ensures { self.new ≡ with_change (Added (created self.old.guest window place parent asked)) self.old }
     {
@@ -257,15 +260,13 @@ impl Rows {
         requires height { height < 2 ^ 31 }
         ensures reads { (sizes : Sizes) → sizes.tiles ≡ self.old.tiles → (row : Row) → row_with window self.old.rows ≡ Some row →
             ReadsAs (P.state port.old self.old.guest) (P.state port.new self.old.guest) self.old self.new result (reads sizes self.old.rows row (clipped row row.dump x y width height)) }
-        ensures others { (other : ℕ) → (other ≡ self.old.guest → ⊥) → P.state port.new other ≡ P.state port.old other }
-        ensures guests { P.guests port.new ≡ P.guests port.old }
-        ensures port_pages { P.pages port.new ≡ P.pages port.old }
+        ensures port { ChangesFrames P.guests P.pages P.state self.old.guest port.old port.new }
     {
         match self.table.slot_of(window) {
             Some(slot) => {
                 let place = self.table.get(slot).place;
                 let size = self.table.dump_at(slot);
-                let area = clip(place, size, x, y, width, height);
+                let area = clipped(place, size, x, y, width, height);
                 read_at(
                     &mut self.tiles,
                     &self.table,
@@ -283,8 +284,8 @@ impl Rows {
 
 // The colour of a slot's pixel within this place.
 fn colour_of(tiles: &Tiles, slot: u32, place: Rect, x: u32, y: u32) -> Option<u32>
-    requires w { place.w ≤ 16384 }
-    requires h { place.h ≤ 6144 }
+    requires w { place.w ≤ MAX_WINDOW_WIDTH }
+    requires h { place.h ≤ MAX_WINDOW_HEIGHT }
     ensures { result ≡ (if nat_lt x place.w && nat_lt y place.h then colour_at slot x y tiles.now.held else None) }
 {
     if x < place.w && y < place.h {

@@ -7,6 +7,7 @@ ghost use Rattle.desk_laws.specs.Sizes.{sizes_of};
 ghost use Rattle.desk_laws.specs.Rows.{row_with, span};
 ghost use Rattle.desk_laws.specs.Stream.{front};
 ghost use Rattle.desk_laws.specs.Stream as cut;
+ghost use Rattle.frame_pool.specs.Ports.{ChangesFrames};
 ghost use Rattle.in_stream.specs.Received.{StandsFor};
 ghost use Rattle.in_stream.specs.Taking.{DropsUnit};
 ghost use Rattle.guest_session.specs.SessionView.{HasRows, IsEnded, IsPlace, opened, with_stream};
@@ -17,7 +18,7 @@ ghost use Rattle.guest_session.specs.Reading.{content_in};
 ghost use Rattle.guest_session.specs.Turns.{Turns};
 
 use crate::Turn;
-use crate::numbers::{Numbers, numbers_of};
+use crate::desk::desk_of;
 use crate::rows::Rows;
 use crate::units::{ended_by, take_unit};
 use desk_laws::{Cause, Setup};
@@ -25,6 +26,7 @@ use frame_pool::FramePort;
 use gui_num::{Colour, NoMemory};
 use in_stream::{Front, InStream};
 use io_ports::Outlet;
+use redirect_limits::DeskSize;
 use std::alloc::Global;
 use std::marker::Model;
 use window_table::Pane;
@@ -37,7 +39,7 @@ use window_table::Pane;
 /// ClipWhole or ClipOver, it calls `clip_done` before the next `turn`.
 #[derive(Drop)]
 pub struct Session {
-    numbers: Numbers,
+    desk: DeskSize,
     stream: InStream,
     rows: Rows,
     minor: u32,
@@ -46,19 +48,19 @@ pub struct Session {
 
 impl Model for Session {
     ghost use Rattle.guest_session.specs.SessionView.{SessionView};
-    ghost use Rattle.guest_session.specs.Numbers.{sizes_in};
-    ghost use Rattle.guest_session.specs.Parts.{joined, AreJoined};
+    ghost use Rattle.guest_session.specs.Desk.{FitDesk, sizes_in};
+    ghost use Rattle.guest_session.specs.Parts.{joined};
 
     ghost Value = { SessionView };
 
-    ghost view = { λ s. joined (sizes_in s.numbers) s.stream s.rows s.minor s.ended };
+    ghost view = { λ s. joined (sizes_in s.desk s.rows) s.stream s.rows s.minor s.ended };
 
-    ghost invariant = { λ s. AreJoined s.numbers s.rows };
+    ghost invariant = { λ s. FitDesk s.desk };
 }
 
 impl Session {
     /// The session of a guest, counted from 0, before any of its bytes, under a setup that keeps its
-    /// rules. It takes all memory that it ever needs. `NoMemory` is want of that memory; no other call
+    /// rules. It takes all memory that it ever needs: `NoMemory` where there is none for it. No other call
     /// takes any.
     pub fn open(alloc: Global, guest: u32, setup: &Setup) -> Result<Session, NoMemory>
         requires rules { first_broken setup.now ≡ None }
@@ -67,11 +69,10 @@ impl Session {
         ensures greeted { IfOk result (λ s. s.stream.greeted ≡ false) }
         ensures stands { IfOk result (λ s. StandsFor s.stream []) }
     {
-        let numbers = numbers_of(setup);
         Ok(Session {
-            numbers,
+            desk: desk_of(setup),
             stream: InStream::new(alloc)?,
-            rows: Rows::new(alloc, guest, numbers.pages, numbers.tiles)?,
+            rows: Rows::new(alloc, guest, setup.pages, setup.tiles)?,
             minor: 0,
             ended: None,
         })
@@ -87,7 +88,7 @@ impl Session {
         ensures some { self.old.ended ≡ None → (rest : List ℕ) → StandsFor self.old.stream rest → front self.old.stream.greeted rest ≡ cut.Wait → 0 < length piece.now → 0 < result }
         ensures kept { self.new ≡ with_stream self.new.stream self.old }
         ensures greeted { self.new.stream.greeted ≡ self.old.stream.greeted }
-        ensures over { (cause : Cause) → self.old.ended ≡ Some cause → (result ≡ length piece.now) × (self.new ≡ self.old) }
+        ensures after_end { (cause : Cause) → self.old.ended ≡ Some cause → (result ≡ length piece.now) × (self.new ≡ self.old) }
     {
         if self.ended.is_some() {
             return piece.len();
@@ -112,10 +113,8 @@ impl Session {
         requires guest { self.old.guest < P.guests port.old }
         requires pages { P.pages port.old ≡ self.old.sizes.pages }
         ensures turned { self.old.ended ≡ None → (rest : List ℕ) → StandsFor self.old.stream rest → Turns O.takes out.old out.new (P.state port.old self.old.guest) (P.state port.new self.old.guest) self.old self.new result (front self.old.stream.greeted rest) }
-        ensures over { (cause : Cause) → self.old.ended ≡ Some cause → (result ≡ Turn.Wait) × (self.new ≡ self.old) × (out.new ≡ out.old) × (P.state port.new self.old.guest ≡ P.state port.old self.old.guest) }
-        ensures others { (other : ℕ) → (other ≡ self.old.guest → ⊥) → P.state port.new other ≡ P.state port.old other }
-        ensures guests { P.guests port.new ≡ P.guests port.old }
-        ensures port_pages { P.pages port.new ≡ P.pages port.old }
+        ensures after_end { (cause : Cause) → self.old.ended ≡ Some cause → (result ≡ Turn.Wait) × (self.new ≡ self.old) × (out.new ≡ out.old) × (P.state port.new self.old.guest ≡ P.state port.old self.old.guest) }
+        ensures port { ChangesFrames P.guests P.pages P.state self.old.guest port.old port.new }
     {
         if self.ended.is_some() {
             return Turn::Wait;
@@ -123,7 +122,7 @@ impl Session {
         let turn = take_unit(
             &mut self.stream,
             &mut self.rows,
-            &self.numbers,
+            &self.desk,
             &mut self.minor,
             port,
             out,

@@ -11,9 +11,9 @@ pub enum Turn {
     /// message's header, 0 for the version word. `drawn` is the rectangle of the window's pixels that
     /// was read, counted from the upper left corner of its place; None where no pixel was.
     Changed { window: u32, drawn: Option<Rect> },
-    /// Clipboard data of at most 65,000 bytes stands in front.
+    /// Clipboard data of at most `MAX_CLIPBOARD_SIZE` bytes stands in front.
     ClipWhole,
-    /// Clipboard data of 65,001 to 256,000 bytes stands in front, whose bytes weren't kept.
+    /// Longer clipboard data, of at most `MAX_SKIPPED_CLIPBOARD` bytes, stands in front; its bytes weren't kept.
     ClipOver,
     /// The session ended: the guest's windows are gone.
     Ended(Cause),

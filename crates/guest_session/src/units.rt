@@ -2,14 +2,14 @@
 ghost use Rattle.std.specs.Prelude.{◌≡◌, ℕ, ◌<◌, ◌≤◌, List, [], true, false, None};
 ghost use Rattle.desk_laws.specs.Frames.{PortState};
 ghost use Rattle.desk_laws.specs.Stream as cut;
+ghost use Rattle.frame_pool.specs.Ports.{ChangesFrames};
 ghost use Rattle.in_stream.specs.Received.{StandsFor};
-ghost use Rattle.guest_session.specs.Numbers.{FitDesk, sizes_in};
+ghost use Rattle.guest_session.specs.Desk.{FitDesk, sizes_in};
 ghost use Rattle.guest_session.specs.Parts.{joined};
 ghost use Rattle.guest_session.specs.Parts as parts;
 ghost use Rattle.guest_session.specs.Turns.{Turns};
 
 use crate::Turn;
-use crate::numbers::Numbers;
 use crate::obey::take;
 use crate::replies::greet;
 use crate::rows::Rows;
@@ -18,6 +18,7 @@ use frame_pool::FramePort;
 use gui_wire::WireFault;
 use in_stream::{Front, InStream};
 use io_ports::Outlet;
+use redirect_limits::DeskSize;
 
 // The type of clipboard data.
 const CLIPBOARD_DATA: u32 = 140;
@@ -45,18 +46,18 @@ fn refuse(rows: &mut Rows, cause: Cause) -> Turn
 fn take_word<O: Outlet>(
     stream: &mut InStream,
     rows: &mut Rows,
-    numbers: &Numbers,
+    desk: &DeskSize,
     minor: &mut u32,
     out: &mut O,
 ) -> Turn
     requires greeted { stream.old.greeted ≡ false }
-    requires wide { numbers.now.width ≤ 8192 }
-    requires high { numbers.now.height ≤ 8192 }
+    requires wide { desk.now.width ≤ 8192 }
+    requires high { desk.now.height ≤ 8192 }
     ensures pages { rows.new.pages ≡ rows.old.pages }
     ensures tiles { rows.new.tiles ≡ rows.old.tiles }
     ensures turned { (port : PortState) (rest : List ℕ) → StandsFor stream.old rest → Turns O.takes out.old out.new port port
-        (joined (sizes_in numbers.now) stream.old rows.old minor.old None)
-        (joined (sizes_in numbers.now) stream.new rows.new minor.new (parts.ended_by result))
+        (joined (sizes_in desk.now rows.old) stream.old rows.old minor.old None)
+        (joined (sizes_in desk.now rows.old) stream.new rows.new minor.new (parts.ended_by result))
         result (cut.front false rest) }
 {
     let Some(word) = stream.word() else {
@@ -67,7 +68,7 @@ fn take_word<O: Outlet>(
     }
     stream.drop_word();
     *minor = word % 0x1_0000;
-    greet(rows.guest(), numbers, *minor, out);
+    greet(rows.guest(), desk, *minor, out);
     Turn::Changed {
         window: 0,
         drawn: None,
@@ -79,14 +80,12 @@ fn take_word<O: Outlet>(
 fn take_front<P: FramePort, O: Outlet>(
     stream: &mut InStream,
     rows: &mut Rows,
-    numbers: &Numbers,
+    desk: &DeskSize,
     minor: u32,
     port: &mut P,
     out: &mut O,
 ) -> Turn
-    requires desk { FitDesk numbers.now }
-    requires pages { numbers.now.pages ≡ rows.old.pages }
-    requires tiles { numbers.now.tiles ≡ rows.old.tiles }
+    requires fit { FitDesk desk.now }
     requires greeted { stream.old.greeted ≡ true }
     requires guest { rows.old.guest < P.guests port.old }
     requires port_pages { P.pages port.old ≡ rows.old.pages }
@@ -94,19 +93,17 @@ fn take_front<P: FramePort, O: Outlet>(
     ensures tiles { rows.new.tiles ≡ rows.old.tiles }
     ensures turned { (rest : List ℕ) → StandsFor stream.old rest → Turns O.takes out.old out.new
         (P.state port.old rows.old.guest) (P.state port.new rows.old.guest)
-        (joined (sizes_in numbers.now) stream.old rows.old minor None)
-        (joined (sizes_in numbers.now) stream.new rows.new minor (parts.ended_by result))
+        (joined (sizes_in desk.now rows.old) stream.old rows.old minor None)
+        (joined (sizes_in desk.now rows.old) stream.new rows.new minor (parts.ended_by result))
         result (cut.front true rest) }
-    ensures others { (other : ℕ) → (other ≡ rows.old.guest → ⊥) → P.state port.new other ≡ P.state port.old other }
-    ensures guests { P.guests port.new ≡ P.guests port.old }
-    ensures port_pages { P.pages port.new ≡ P.pages port.old }
+    ensures port { ChangesFrames P.guests P.pages P.state rows.old.guest port.old port.new }
 {
     match stream.front() {
         Front::Whole { header, body } => {
             if header.kind == CLIPBOARD_DATA {
                 return Turn::ClipWhole;
             }
-            match take(rows, numbers, minor, header, body, port, out) {
+            match take(rows, desk, minor, header, body, port, out) {
                 Ok(drawn) => {
                     stream.drop_front();
                     Turn::Changed {
@@ -137,31 +134,27 @@ fn take_front<P: FramePort, O: Outlet>(
 pub(crate) fn take_unit<P: FramePort, O: Outlet>(
     stream: &mut InStream,
     rows: &mut Rows,
-    numbers: &Numbers,
+    desk: &DeskSize,
     minor: &mut u32,
     port: &mut P,
     out: &mut O,
 ) -> Turn
-    requires desk { FitDesk numbers.now }
-    requires pages { numbers.now.pages ≡ rows.old.pages }
-    requires tiles { numbers.now.tiles ≡ rows.old.tiles }
+    requires fit { FitDesk desk.now }
     requires guest { rows.old.guest < P.guests port.old }
     requires port_pages { P.pages port.old ≡ rows.old.pages }
-    ensures pages { numbers.now.pages ≡ rows.new.pages }
-    ensures tiles { numbers.now.tiles ≡ rows.new.tiles }
+    ensures pages { rows.new.pages ≡ rows.old.pages }
+    ensures tiles { rows.new.tiles ≡ rows.old.tiles }
     ensures turned { (rest : List ℕ) → StandsFor stream.old rest → Turns O.takes out.old out.new
         (P.state port.old rows.old.guest) (P.state port.new rows.old.guest)
-        (joined (sizes_in numbers.now) stream.old rows.old minor.old None)
-        (joined (sizes_in numbers.now) stream.new rows.new minor.new (parts.ended_by result))
+        (joined (sizes_in desk.now rows.old) stream.old rows.old minor.old None)
+        (joined (sizes_in desk.now rows.old) stream.new rows.new minor.new (parts.ended_by result))
         result (cut.front stream.old.greeted rest) }
-    ensures others { (other : ℕ) → (other ≡ rows.old.guest → ⊥) → P.state port.new other ≡ P.state port.old other }
-    ensures guests { P.guests port.new ≡ P.guests port.old }
-    ensures port_pages { P.pages port.new ≡ P.pages port.old }
+    ensures port { ChangesFrames P.guests P.pages P.state rows.old.guest port.old port.new }
 {
     if stream.greeted() {
-        take_front(stream, rows, numbers, *minor, port, out)
+        take_front(stream, rows, desk, *minor, port, out)
     } else {
-        take_word(stream, rows, numbers, minor, out)
+        take_word(stream, rows, desk, minor, out)
     }
 }
 

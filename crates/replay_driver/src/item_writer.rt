@@ -4,6 +4,7 @@ ghost use Rattle.desk_laws.specs.Items.{FitsItem};
 ghost use Rattle.desk_laws.specs.Picture.{picture};
 ghost use Rattle.desk_laws.specs.State.{DeskState};
 ghost use Rattle.desk_laws.specs.declared.setup.Setup.{Setup as SetupValue};
+ghost use Rattle.frame_pool.specs.Ports.{HasExtent, KeepsExtent};
 ghost use Rattle.desk_core.specs.DeskView.{guests_of, pages_of, picture_of};
 ghost use Rattle.desk_core.specs.DeskStands.{Stands, stepped_of};
 ghost use Rattle.replay_driver.specs.ItemWrites.{StepWrites, Suits, guest_bytes_of, step_bytes};
@@ -26,15 +27,13 @@ fn step_desk<P: FramePort, K: Sink>(
     out: &mut K,
 ) -> Result<Stepped, Failed>
     requires range { FitsItem (guests_of desk.old) (pages_of desk.old) item.now (length piece.now) }
-    requires guests { P.guests port.old ≡ guests_of desk.old }
-    requires pages { P.pages port.old ≡ pages_of desk.old }
+    requires port { HasExtent P.guests P.pages port.old (guests_of desk.old) (pages_of desk.old) }
     ensures writes { (setup : SetupValue) (state : DeskState) → Stands setup desk.old (P.state port.old) state →
         StepWrites setup item.now piece.now state desk.old desk.new (P.state port.new) result (guest_bytes_of setup item.now piece.now state)
         (K.written out.old) (K.written out.new) (K.faults out.old) (K.faults out.new) (K.keeps out.old out.new) }
     ensures drawn { item.now ≡ Item.Snap → (setup : SetupValue) (state : DeskState) → Stands setup desk.old (P.state port.old) state →
         (picture_of desk.new).pixels ≡ picture setup state.scene.rows state.scene.layers }
-    ensures port_guests { P.guests port.new ≡ P.guests port.old }
-    ensures port_pages { P.pages port.new ≡ P.pages port.old }
+    ensures port { KeepsExtent P.guests P.pages port.old port.new }
     ensures answer { IfOk result (λ stepped. stepped ≡ stepped_of item.now) }
 {
     let mut writer = PostWriter { out, failed: false };
@@ -59,14 +58,12 @@ pub fn write_item<P: FramePort, K: Sink>(
     out: &mut K,
 ) -> Result<(), Failed>
     requires range { FitsItem (guests_of desk.old) (pages_of desk.old) item.now (length piece.now) }
-    requires guests { P.guests port.old ≡ guests_of desk.old }
-    requires pages { P.pages port.old ≡ pages_of desk.old }
+    requires port { HasExtent P.guests P.pages port.old (guests_of desk.old) (pages_of desk.old) }
     requires suits { Suits desk.old (P.state port.old) head.now (length line.old) }
     ensures writes { (setup : SetupValue) (state : DeskState) → Stands setup desk.old (P.state port.old) state →
         StepWrites setup item.now piece.now state desk.old desk.new (P.state port.new) result (step_bytes (picture_of desk.new).painted setup item.now piece.now state)
         (K.written out.old) (K.written out.new) (K.faults out.old) (K.faults out.new) (K.keeps out.old out.new) }
-    ensures port_guests { P.guests port.new ≡ P.guests port.old }
-    ensures port_pages { P.pages port.new ≡ P.pages port.old }
+    ensures port { KeepsExtent P.guests P.pages port.old port.new }
 {
     match step_desk(desk, item, piece, port, out) {
         Ok(Stepped::Going) => Ok(()),

@@ -1,5 +1,6 @@
 use Rattle.std.proofs.Common.{◌∙◌, ◌+◌, ap}
 use Rattle.tile_store.specs.Held.{TilesView}
+use Rattle.frame_pool.proofs.PortLemmas.{frames-changed_twice}
 use Rattle.guest_session.specs.Areas.{dump_at}
 use Rattle.guest_session.proofs.AreaLemmas.{row-read}
 use Rattle.guest_session.proofs.read.read_area.Goals as goal
@@ -11,7 +12,5 @@ loop-y-preserved g c = record {
       (ap (λ (v : TilesView). v.held) c.read_row_of.ensures.tiles) c.read_row_of.ensures.frames;
   number = ap (λ (v : TilesView). v.number) c.read_row_of.ensures.tiles ∙ c.loop-y.invariant.number;
   stay = λ spot is. c.read_row_of.ensures.stay spot (c.loop-y.invariant.stay spot is);
-  others = λ other out. c.read_row_of.ensures.others other out ∙ c.loop-y.invariant.others other out;
-  guests = c.read_row_of.ensures.guests ∙ c.loop-y.invariant.guests;
-  pages = c.read_row_of.ensures.pages ∙ c.loop-y.invariant.pages;
+  port = frames-changed_twice c.loop-y.invariant.port c.read_row_of.ensures.port;
 }

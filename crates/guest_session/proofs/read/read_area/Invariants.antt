@@ -1,5 +1,6 @@
 use Rattle.std.proofs.Common.{◌≡◌, ℕ, ◌-◌}
 use Rattle.desk_laws.specs.Rows.{grid}
+use Rattle.frame_pool.specs.Ports.{ChangesFrames}
 use Rattle.tile_store.specs.Contents.{KeepsHeld}
 use Rattle.guest_session.specs.Areas.{dump_at, tiles_read, frames_read}
 use Rattle.guest_session.proofs.AreaLemmas.{Reading}
@@ -12,7 +13,5 @@ invariant-loop-y g l = record {
       (frames_read (dump_at l.slot l.table.entries) (grid l.fn.area.x l.fn.area.y l.fn.area.w l.fn.area.h) (g.P.FramePort.state l.fn.port l.guest));
   number : l.tiles.number ≡ l.fn.tiles.number;
   stay : KeepsHeld l.fn.tiles.held l.tiles.held;
-  others : (other : ℕ) → (other ≡ l.guest → ⊥) → g.P.FramePort.state l.port other ≡ g.P.FramePort.state l.fn.port other;
-  guests : g.P.FramePort.guests l.port ≡ g.P.FramePort.guests l.fn.port;
-  pages : g.P.FramePort.pages l.port ≡ g.P.FramePort.pages l.fn.port;
+  port : ChangesFrames g.P.FramePort.guests g.P.FramePort.pages g.P.FramePort.state l.guest l.fn.port l.port;
 }

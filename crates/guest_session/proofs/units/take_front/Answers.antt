@@ -4,7 +4,7 @@ use Rattle.desk_laws.specs.Stream.{Whole, Fault, front}
 use Rattle.desk_laws.specs.Effects.{verdict}
 use Rattle.in_stream.proofs.CallerLemmas.{some_rest, stands-some_rest, has_unit-whole, shown-whole, shown-skipped, shown-need, shown-skipping, shown-clip_fault}
 use Rattle.guest_session.specs.declared.turn.Turn.{Turn}
-use Rattle.guest_session.specs.Numbers.{sizes_in}
+use Rattle.guest_session.specs.Desk.{sizes_in}
 use Rattle.guest_session.specs.Parts.{joined, ended_by}
 use Rattle.guest_session.specs.Turns.{Turns}
 use Rattle.guest_session.proofs.FrontFacts.{message-is, shown-kept, clip-kept, clip-over, fault-is}
@@ -13,7 +13,7 @@ use Rattle.guest_session.proofs.units.take_front.Goals as goal
 
 pub returns-then-header-eq-CLIPBOARD_DATA-clause-turned : goal.returns-then-header-eq-CLIPBOARD_DATA-clause-turned
 returns-then-header-eq-CLIPBOARD_DATA-clause-turned g c = λ rest stands.
-    let sizes = sizes_in c.args.numbers.now in
+    let sizes = sizes_in c.args.desk.now c.args.rows.now in
     let h = c.in-Whole.header in
     let b = c.in-Whole.body.now in
     let e = sym (c.in-Whole.ensures rest stands) in
@@ -42,18 +42,18 @@ drop_front-requires-clause-unit g c =
 pub returns-in-Ok-clause-pages : goal.returns-in-Ok-clause-pages
 returns-in-Ok-clause-pages g c =
     let rows = c.args.rows.now in
-    (carries-numbers g.O.Outlet.takes c.args.out.now c.take.new.out (g.P.FramePort.state c.args.port.now c.args.rows.now.guest) (g.P.FramePort.state c.take.new.port c.args.rows.now.guest) rows c.take.new.rows _ (verdict (sizes_in c.args.numbers.now) rows.guest c.args.minor rows.rows (Whole c.in-Whole.header c.in-Whole.body.now))
+    (carries-numbers g.O.Outlet.takes c.args.out.now c.take.new.out (g.P.FramePort.state c.args.port.now c.args.rows.now.guest) (g.P.FramePort.state c.take.new.port c.args.rows.now.guest) rows c.take.new.rows _ (verdict (sizes_in c.args.desk.now c.args.rows.now) rows.guest c.args.minor rows.rows (Whole c.in-Whole.header c.in-Whole.body.now))
     c.take.ensures.carries).pages
 
 pub returns-in-Ok-clause-tiles : goal.returns-in-Ok-clause-tiles
 returns-in-Ok-clause-tiles g c =
     let rows = c.args.rows.now in
-    (carries-numbers g.O.Outlet.takes c.args.out.now c.take.new.out (g.P.FramePort.state c.args.port.now c.args.rows.now.guest) (g.P.FramePort.state c.take.new.port c.args.rows.now.guest) rows c.take.new.rows _ (verdict (sizes_in c.args.numbers.now) rows.guest c.args.minor rows.rows (Whole c.in-Whole.header c.in-Whole.body.now))
+    (carries-numbers g.O.Outlet.takes c.args.out.now c.take.new.out (g.P.FramePort.state c.args.port.now c.args.rows.now.guest) (g.P.FramePort.state c.take.new.port c.args.rows.now.guest) rows c.take.new.rows _ (verdict (sizes_in c.args.desk.now c.args.rows.now) rows.guest c.args.minor rows.rows (Whole c.in-Whole.header c.in-Whole.body.now))
     c.take.ensures.carries).tiles
 
 pub returns-in-Ok-clause-turned : goal.returns-in-Ok-clause-turned
 returns-in-Ok-clause-turned g c = λ rest stands.
-    let sizes = sizes_in c.args.numbers.now in
+    let sizes = sizes_in c.args.desk.now c.args.rows.now in
     let h = c.in-Whole.header in
     let b = c.in-Whole.body.now in
     let s = c.args.stream.now in
@@ -68,19 +68,19 @@ pub returns-in-Err-clause-pages : goal.returns-in-Err-clause-pages
 returns-in-Err-clause-pages g c =
     let rows = c.args.rows.now in
     ap (λ (r : _). r.pages) c.refuse.ensures.rows
-    ∙ (carries-numbers g.O.Outlet.takes c.args.out.now c.take.new.out (g.P.FramePort.state c.args.port.now c.args.rows.now.guest) (g.P.FramePort.state c.take.new.port c.args.rows.now.guest) rows c.take.new.rows _ (verdict (sizes_in c.args.numbers.now) rows.guest c.args.minor rows.rows (Whole c.in-Whole.header c.in-Whole.body.now))
+    ∙ (carries-numbers g.O.Outlet.takes c.args.out.now c.take.new.out (g.P.FramePort.state c.args.port.now c.args.rows.now.guest) (g.P.FramePort.state c.take.new.port c.args.rows.now.guest) rows c.take.new.rows _ (verdict (sizes_in c.args.desk.now c.args.rows.now) rows.guest c.args.minor rows.rows (Whole c.in-Whole.header c.in-Whole.body.now))
     c.take.ensures.carries).pages
 
 pub returns-in-Err-clause-tiles : goal.returns-in-Err-clause-tiles
 returns-in-Err-clause-tiles g c =
     let rows = c.args.rows.now in
     ap (λ (r : _). r.tiles) c.refuse.ensures.rows
-    ∙ (carries-numbers g.O.Outlet.takes c.args.out.now c.take.new.out (g.P.FramePort.state c.args.port.now c.args.rows.now.guest) (g.P.FramePort.state c.take.new.port c.args.rows.now.guest) rows c.take.new.rows _ (verdict (sizes_in c.args.numbers.now) rows.guest c.args.minor rows.rows (Whole c.in-Whole.header c.in-Whole.body.now))
+    ∙ (carries-numbers g.O.Outlet.takes c.args.out.now c.take.new.out (g.P.FramePort.state c.args.port.now c.args.rows.now.guest) (g.P.FramePort.state c.take.new.port c.args.rows.now.guest) rows c.take.new.rows _ (verdict (sizes_in c.args.desk.now c.args.rows.now) rows.guest c.args.minor rows.rows (Whole c.in-Whole.header c.in-Whole.body.now))
     c.take.ensures.carries).tiles
 
 pub returns-in-Err-clause-turned : goal.returns-in-Err-clause-turned
 returns-in-Err-clause-turned g c = λ rest stands.
-    let sizes = sizes_in c.args.numbers.now in
+    let sizes = sizes_in c.args.desk.now c.args.rows.now in
     let h = c.in-Whole.header in
     let b = c.in-Whole.body.now in
     let s = c.args.stream.now in
@@ -94,7 +94,7 @@ returns-in-Err-clause-turned g c = λ rest stands.
 
 pub returns-in-Bad-clause-turned : goal.returns-in-Bad-clause-turned
 returns-in-Bad-clause-turned g c = λ rest stands.
-    let sizes = sizes_in c.args.numbers.now in
+    let sizes = sizes_in c.args.desk.now c.args.rows.now in
     let s = c.args.stream.now in
     let rows = c.args.rows.now in
     let P : Turn → Type 0 = λ t. Turns g.O.Outlet.takes c.args.out.now c.args.out.now (g.P.FramePort.state c.args.port.now c.args.rows.now.guest) (g.P.FramePort.state c.args.port.now c.args.rows.now.guest) (joined sizes s rows c.args.minor None) (joined sizes s c.refuse-in-Bad.new.rows c.args.minor (ended_by t)) t (front true rest) in
@@ -104,7 +104,7 @@ returns-in-Bad-clause-turned g c = λ rest stands.
 
 pub returns-in-ClipLong-clause-turned : goal.returns-in-ClipLong-clause-turned
 returns-in-ClipLong-clause-turned g c = λ rest stands.
-    let sizes = sizes_in c.args.numbers.now in
+    let sizes = sizes_in c.args.desk.now c.args.rows.now in
     let s = c.args.stream.now in
     let rows = c.args.rows.now in
     let P : Turn → Type 0 = λ t. Turns g.O.Outlet.takes c.args.out.now c.args.out.now (g.P.FramePort.state c.args.port.now c.args.rows.now.guest) (g.P.FramePort.state c.args.port.now c.args.rows.now.guest) (joined sizes s rows c.args.minor None) (joined sizes s c.refuse-in-ClipLong.new.rows c.args.minor (ended_by t)) t (front true rest) in
@@ -114,7 +114,7 @@ returns-in-ClipLong-clause-turned g c = λ rest stands.
 
 pub returns-in-Skipped-clause-turned : goal.returns-in-Skipped-clause-turned
 returns-in-Skipped-clause-turned g c = λ rest stands.
-    let sizes = sizes_in c.args.numbers.now in
+    let sizes = sizes_in c.args.desk.now c.args.rows.now in
     let h = c.in-Skipped.header in
     let m = shown-skipped rest h (sym (c.in-Skipped.ensures rest stands)) in
     let k = clip-over h m.0.body m.1 (message-is rest h m.0.body m.0.behind m.0.takes) in
@@ -122,12 +122,12 @@ returns-in-Skipped-clause-turned g c = λ rest stands.
 
 pub returns-in-Skipping-clause-turned : goal.returns-in-Skipping-clause-turned
 returns-in-Skipping-clause-turned g c = λ rest stands.
-    let sizes = sizes_in c.args.numbers.now in
+    let sizes = sizes_in c.args.desk.now c.args.rows.now in
     turn-waits g.O.Outlet.takes c.args.out.now (g.P.FramePort.state c.args.port.now c.args.rows.now.guest) sizes c.args.stream.now c.args.rows.now c.args.minor (front true rest)
     (shown-skipping rest c.in-Skipping.left (sym (c.in-Skipping.ensures rest stands)))
 
 pub returns-in-Need-clause-turned : goal.returns-in-Need-clause-turned
 returns-in-Need-clause-turned g c = λ rest stands.
-    let sizes = sizes_in c.args.numbers.now in
+    let sizes = sizes_in c.args.desk.now c.args.rows.now in
     turn-waits g.O.Outlet.takes c.args.out.now (g.P.FramePort.state c.args.port.now c.args.rows.now.guest) sizes c.args.stream.now c.args.rows.now c.args.minor (front true rest)
     (shown-need rest c.in-Need.more (sym (c.in-Need.ensures rest stands)))

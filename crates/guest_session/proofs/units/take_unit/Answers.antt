@@ -1,13 +1,13 @@
 use Rattle.std.proofs.Common.{◌≡◌, ◌∙◌, Bool, true, false, None, sym, subst}
 use Rattle.desk_laws.specs.Stream.{front}
-use Rattle.guest_session.specs.Numbers.{sizes_in}
+use Rattle.guest_session.specs.Desk.{sizes_in}
 use Rattle.guest_session.specs.Parts.{joined, ended_by}
 use Rattle.guest_session.specs.Turns.{Turns}
 use Rattle.guest_session.proofs.units.take_unit.Goals as goal
 
 pub returns-then-greeted-clause-turned : goal.returns-then-greeted-clause-turned
 returns-then-greeted-clause-turned g c = λ rest stands.
-    let sizes = sizes_in c.args.numbers.now in
+    let sizes = sizes_in c.args.desk.now c.args.rows.now in
     let greeted : true ≡ c.args.stream.now.greeted = sym c.if-greeted.true ∙ c.greeted.ensures in
     let state = g.P.FramePort.state c.args.port.now c.args.rows.now.guest in
     let state' = g.P.FramePort.state c.take_front.new.port c.args.rows.now.guest in
@@ -18,7 +18,7 @@ returns-then-greeted-clause-turned g c = λ rest stands.
 
 pub returns-else-greeted-clause-turned : goal.returns-else-greeted-clause-turned
 returns-else-greeted-clause-turned g c = λ rest stands.
-    let sizes = sizes_in c.args.numbers.now in
+    let sizes = sizes_in c.args.desk.now c.args.rows.now in
     let greeted : false ≡ c.args.stream.now.greeted = sym c.if-greeted.false ∙ c.greeted.ensures in
     let state = g.P.FramePort.state c.args.port.now c.args.rows.now.guest in
     let P : Bool → Type 0 = λ b.

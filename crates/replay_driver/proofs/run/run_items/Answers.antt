@@ -53,8 +53,11 @@ write_item-requires-clause-range g c =
     (c.loop-n.invariant.guests ∙ sym (guests_is _ _ _ _ c.loop-n.invariant.so_far.stands))
     (c.loop-n.invariant.pages ∙ sym (pages_is _ _ _ _ c.loop-n.invariant.so_far.stands)) long c.in-Ok.ensures.range
 
-pub write_item-requires-clause-guests : goal.write_item-requires-clause-guests
-write_item-requires-clause-guests g c = c.loop-n.invariant.port_guests ∙ sym (guests_is _ _ _ _ c.loop-n.invariant.so_far.stands)
+pub write_item-requires-clause-port : goal.write_item-requires-clause-port
+write_item-requires-clause-port g c = record {
+  guests = c.loop-n.invariant.port_guests ∙ sym (guests_is _ _ _ _ c.loop-n.invariant.so_far.stands);
+  pages = c.loop-n.invariant.port_pages ∙ sym (pages_is _ _ _ _ c.loop-n.invariant.so_far.stands);
+}
 
 pub write_item-requires-clause-suits : goal.write_item-requires-clause-suits
 write_item-requires-clause-suits g c = record {
@@ -125,8 +128,8 @@ loop-n-preserved g c =
       room = omega (arith, c.loop-n.invariant.room);
       guests = c.in-Ok.ensures.guests ∙ c.loop-n.invariant.guests;
       pages = c.in-Ok.ensures.pages ∙ c.loop-n.invariant.pages;
-      port_guests = c.in-Ok-write_item.ensures.port_guests ∙ c.loop-n.invariant.port_guests;
-      port_pages = c.in-Ok-write_item.ensures.port_pages ∙ c.loop-n.invariant.port_pages;
+      port_guests = c.in-Ok-write_item.ensures.port.guests ∙ c.loop-n.invariant.port_guests;
+      port_pages = c.in-Ok-write_item.ensures.port.pages ∙ c.loop-n.invariant.port_pages;
       keeps = g.met.K.Sink.keeps_on _ _ _ c.loop-n.invariant.keeps wrote.keeps_sink;
       read_later = omega (arith, c.loop-n.invariant.read_later, c.in-Ok.ensures.later);
       write_later = omega (arith, c.loop-n.invariant.write_later, wrote.cause.later);

@@ -9,7 +9,7 @@ pub returns-in-Bytes-clause-took : goal.returns-in-Bytes-clause-took
 returns-in-Bytes-clause-took g c =
     let piece = c.take_piece.ensures in
     bytes-item g.O.Outlet.takes c.args.out.now c.take_piece.new.out c.in-Bytes.guest c.args.piece.now c.args.self.now c.count_item.new.self c.take_piece.new.self (g.P.FramePort.state c.args.port.now) (g.P.FramePort.state c.take_piece.new.port)
-    c.count_item.ensures piece.alone piece.others c.args.item.now c.in-Bytes.is piece.took
+    c.count_item.ensures piece.alone piece.port.others c.args.item.now c.in-Bytes.is piece.took
 
 pub returns-in-Closed-clause-took : goal.returns-in-Closed-clause-took
 returns-in-Closed-clause-took g c =
@@ -29,7 +29,7 @@ returns-in-Store-clause-took g c =
     let frames' = g.P.FramePort.state c.take_store.new.port in
     let i = c.in-Store in
     store-item g.O.Outlet.takes c.args.out.now c.args.out.now i.guest c.args.piece.now c.args.self.now desk desk (g.P.FramePort.state c.args.port.now) frames'
-    c.count_item-in-Store.ensures (alone-none i.guest desk) c.take_store.ensures.others c.args.item.now i.delay i.page i.offset i.is
+    c.count_item-in-Store.ensures (alone-none i.guest desk) c.take_store.ensures.port.others c.args.item.now i.delay i.page i.offset i.is
     (λ setup state rests. stores-steps g.O.Outlet.takes c.args.out.now setup desk frames' (take_store i.guest i.delay i.page i.offset c.args.piece.now state) (c.take_store.ensures.took setup state rests))
 
 pub returns-in-Snap-clause-took : goal.returns-in-Snap-clause-took

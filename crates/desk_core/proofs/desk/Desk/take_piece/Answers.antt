@@ -1,6 +1,7 @@
 use Rattle.std.proofs.Common.{◌∙◌, ℕ, List, take, drop, sym, subst}
 use Rattle.std.proofs.lemmas.List.{take_rest, take-append-drop}
 use Rattle.desk_laws.specs.Steps.{take_bytes}
+use Rattle.frame_pool.proofs.PortLemmas.{frames-changed_twice}
 use Rattle.desk_core.specs.DeskView.{PartView, part_of, session_in}
 use Rattle.desk_core.specs.DeskStands.{rests_of}
 use Rattle.desk_core.specs.PieceSteps.{IsAlong}
@@ -14,9 +15,7 @@ loop-left-init g c =
     let units = c.take_units.ensures in
     record {
       alone = units.alone;
-      others = units.others;
-      port_guests = units.port_guests;
-      port_pages = units.port_pages;
+      port = units.port;
       settled = units.settled;
       along = λ setup state rests.
           let takes = g.O.Outlet.takes in
@@ -37,9 +36,7 @@ loop-left-preserved g c =
     let units = c.take_units-in-loop-left.ensures in
     record {
       alone = alone-both guest c.args.self.now c.push-size.new.self c.take_units-in-loop-left.new.self (alone-both guest c.args.self.now c.loop-left.self c.push-size.new.self done.alone push.alone) units.alone;
-      others = λ other apart. units.others other apart ∙ done.others other apart;
-      port_guests = units.port_guests ∙ done.port_guests;
-      port_pages = units.port_pages ∙ done.port_pages;
+      port = frames-changed_twice done.port units.port;
       settled = units.settled;
       along = λ setup state rests.
           let takes = g.O.Outlet.takes in
@@ -62,4 +59,4 @@ returns-clause-took g c = λ setup state rests.
     let guest = c.args.guest in
     along-all g.O.Outlet.takes c.args.out.now c.loop-left.out setup guest c.args.self.now c.loop-left.self (g.P.FramePort.state c.args.port.now) (g.P.FramePort.state c.loop-left.port) state c.loop-left.left.now _
     rests (c.loop-left.invariant.along setup state rests)
-    (nil-of c.loop-left.left.now (sym c.is_empty.ensures ∙ c.loop-left-test.false)) c.loop-left.invariant.settled c.loop-left.invariant.alone c.loop-left.invariant.others
+    (nil-of c.loop-left.left.now (sym c.is_empty.ensures ∙ c.loop-left-test.false)) c.loop-left.invariant.settled c.loop-left.invariant.alone c.loop-left.invariant.port.others

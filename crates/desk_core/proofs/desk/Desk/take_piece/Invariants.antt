@@ -1,7 +1,8 @@
-use Rattle.std.proofs.Common.{◌≡◌, ◌≢◌, ℕ, length}
+use Rattle.std.proofs.Common.{◌≡◌, ℕ, length}
 use Rattle.desk_laws.specs.declared.setup.Setup.{Setup}
 use Rattle.desk_laws.specs.State.{DeskState}
 use Rattle.desk_laws.specs.Steps.{take_bytes}
+use Rattle.frame_pool.specs.Ports.{ChangesFrames}
 use Rattle.desk_core.specs.DeskView.{ChangesPart, part_of, session_in}
 use Rattle.desk_core.specs.DeskStands.{IsAtRest}
 use Rattle.desk_core.specs.PieceSteps.{IsAlong, Settled}
@@ -10,9 +11,7 @@ use Rattle.desk_core.proofs.desk.Desk.take_piece.Given as goal
 abbrev pub invariant-loop-left : goal.invariant-loop-left
 invariant-loop-left g l = record {
   alone : ChangesPart l.fn.guest l.fn.self l.self;
-  others : (other : ℕ) → other ≢ l.fn.guest → g.P.FramePort.state l.port other ≡ g.P.FramePort.state l.fn.port other;
-  port_guests : g.P.FramePort.guests l.port ≡ g.P.FramePort.guests l.fn.port;
-  port_pages : g.P.FramePort.pages l.port ≡ g.P.FramePort.pages l.fn.port;
+  port : ChangesFrames g.P.FramePort.guests g.P.FramePort.pages g.P.FramePort.state l.fn.guest l.fn.port l.port;
   settled : Settled (session_in l.fn.guest l.self);
   along : (setup : Setup) (state : DeskState) → IsAtRest setup l.fn.self (g.P.FramePort.state l.fn.port) state
       → IsAlong g.O.Outlet.takes l.fn.out l.out setup l.fn.guest state (part_of l.fn.guest l.self) (g.P.FramePort.state l.port l.fn.guest) l.left (take_bytes setup l.fn.guest l.fn.piece state);

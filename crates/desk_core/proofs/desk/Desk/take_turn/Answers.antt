@@ -15,66 +15,66 @@ use Rattle.desk_core.proofs.desk.Desk.take_turn.Goals as goal
 
 pub invariant_of-self : goal.invariant_of-self
 invariant_of-self g c =
-    (wait-kept g.O.Outlet.takes c.args.out.now c.turn.new.out c.args.guest _ c.args.self.now c.self.inside.stack.rows c.self.view_is c.requires.there c.self.invariant.0 c.index_mut-session.result.now c.turn.new.self c.index_mut-session.ensures.value (g.P.FramePort.state c.args.port.now) (g.P.FramePort.state c.turn.new.port) c.in-Wait.ensures.turned c.in-Wait.ensures.over, c.self.invariant.1)
+    (wait-kept g.O.Outlet.takes c.args.out.now c.turn.new.out c.args.guest _ c.args.self.now c.self.inside.stack.rows c.self.view_is c.requires.there c.self.invariant.0 c.index_mut-session.result.now c.turn.new.self c.index_mut-session.ensures.value (g.P.FramePort.state c.args.port.now) (g.P.FramePort.state c.turn.new.port) c.in-Wait.ensures.turned c.in-Wait.ensures.after_end, c.self.invariant.1)
 
 pub returns-in-Wait-clause-took : goal.returns-in-Wait-clause-took
 returns-in-Wait-clause-took g c =
-    wait-took g.O.Outlet.takes c.args.out.now c.turn.new.out c.args.guest _ c.args.self.now c.self.inside.stack.rows c.self.view_is c.requires.there c.self.invariant.0 c.index_mut-session.result.now c.turn.new.self c.index_mut-session.ensures.value (g.P.FramePort.state c.args.port.now) (g.P.FramePort.state c.turn.new.port) c.in-Wait.ensures.turned c.in-Wait.ensures.over
+    wait-took g.O.Outlet.takes c.args.out.now c.turn.new.out c.args.guest _ c.args.self.now c.self.inside.stack.rows c.self.view_is c.requires.there c.self.invariant.0 c.index_mut-session.result.now c.turn.new.self c.index_mut-session.ensures.value (g.P.FramePort.state c.args.port.now) (g.P.FramePort.state c.turn.new.port) c.in-Wait.ensures.turned c.in-Wait.ensures.after_end
 
 pub returns-in-Wait-clause-settled : goal.returns-in-Wait-clause-settled
 returns-in-Wait-clause-settled g c =
-    λ _. wait-settled g.O.Outlet.takes c.args.out.now c.turn.new.out c.args.guest _ c.args.self.now c.self.inside.stack.rows c.self.view_is c.requires.there c.self.invariant.0 c.index_mut-session.result.now c.turn.new.self c.index_mut-session.ensures.value (g.P.FramePort.state c.args.port.now) (g.P.FramePort.state c.turn.new.port) c.in-Wait.ensures.turned c.in-Wait.ensures.over
+    λ _. wait-settled g.O.Outlet.takes c.args.out.now c.turn.new.out c.args.guest _ c.args.self.now c.self.inside.stack.rows c.self.view_is c.requires.there c.self.invariant.0 c.index_mut-session.result.now c.turn.new.self c.index_mut-session.ensures.value (g.P.FramePort.state c.args.port.now) (g.P.FramePort.state c.turn.new.port) c.in-Wait.ensures.turned c.in-Wait.ensures.after_end
 
 pub returns-in-Wait-clause-alone : goal.returns-in-Wait-clause-alone
 returns-in-Wait-clause-alone g c =
-    wait-alone g.O.Outlet.takes c.args.out.now c.turn.new.out c.args.guest _ c.args.self.now c.self.inside.stack.rows c.self.view_is c.requires.there c.self.invariant.0 c.index_mut-session.result.now c.turn.new.self c.index_mut-session.ensures.value (g.P.FramePort.state c.args.port.now) (g.P.FramePort.state c.turn.new.port) c.in-Wait.ensures.turned c.in-Wait.ensures.over
+    wait-alone g.O.Outlet.takes c.args.out.now c.turn.new.out c.args.guest _ c.args.self.now c.self.inside.stack.rows c.self.view_is c.requires.there c.self.invariant.0 c.index_mut-session.result.now c.turn.new.self c.index_mut-session.ensures.value (g.P.FramePort.state c.args.port.now) (g.P.FramePort.state c.turn.new.port) c.in-Wait.ensures.turned c.in-Wait.ensures.after_end
 
 -- ---- a message or the version word
 
 pub follow-requires : goal.follow-requires
 follow-requires g c =
-    changed-room g.O.Outlet.takes c.args.out.now c.turn.new.out c.args.guest _ c.args.self.now c.self.inside.stack.rows c.self.view_is c.requires.there c.self.invariant.0 c.index_mut-session.result.now c.turn.new.self c.index_mut-session.ensures.value (g.P.FramePort.state c.args.port.now) (g.P.FramePort.state c.turn.new.port) c.in-Changed.window c.in-Changed.drawn c.in-Changed.ensures.turned c.in-Changed.ensures.over c.layer_of-layer.result c.layer_of-layer.ensures.sound c.layer_of-layer.ensures.is
+    changed-room g.O.Outlet.takes c.args.out.now c.turn.new.out c.args.guest _ c.args.self.now c.self.inside.stack.rows c.self.view_is c.requires.there c.self.invariant.0 c.index_mut-session.result.now c.turn.new.self c.index_mut-session.ensures.value (g.P.FramePort.state c.args.port.now) (g.P.FramePort.state c.turn.new.port) c.in-Changed.window c.in-Changed.drawn c.in-Changed.ensures.turned c.in-Changed.ensures.after_end c.layer_of-layer.result c.layer_of-layer.ensures.sound c.layer_of-layer.ensures.is
 
 pub invariant_of-self-in-Changed : goal.invariant_of-self-in-Changed
 invariant_of-self-in-Changed g c =
     let i = c.self.inside in
     let R : ℕ → Type 0 = λ rows. IsKept rows
     (record { border = i.border; labels = i.labels.items; sessions = slice_set i.sessions.items c.args.guest c.turn.new.self; layers = c.follow.new.stack.layers; items = i.items; messages = c.count_if-self-inside.result; glances = c.count_read-self-inside.result; picture = i.picture }) × (rows ≤ vec_capacity i.shown) in
-    subst R (sym (ap (λ (s : Stacked). s.rows) c.follow.ensures)) (changed-kept g.O.Outlet.takes c.args.out.now c.turn.new.out c.args.guest _ c.args.self.now c.self.inside.stack.rows c.self.view_is c.requires.there c.self.invariant.0 c.index_mut-session.result.now c.turn.new.self c.index_mut-session.ensures.value (g.P.FramePort.state c.args.port.now) (g.P.FramePort.state c.turn.new.port) c.in-Changed.window c.in-Changed.drawn c.in-Changed.ensures.turned c.in-Changed.ensures.over c.greeted-greeted.result c.layer_of-layer.result c.follow.new.stack.layers c.count_if-self-inside.result c.count_read-self-inside.result c.layer_of-layer.ensures.sound c.layer_of-layer.ensures.is (ap (λ (s : Stacked). s.layers) c.follow.ensures) c.greeted-greeted.ensures c.count_if-self-inside.ensures c.count_read-self-inside.ensures, c.self.invariant.1)
+    subst R (sym (ap (λ (s : Stacked). s.rows) c.follow.ensures)) (changed-kept g.O.Outlet.takes c.args.out.now c.turn.new.out c.args.guest _ c.args.self.now c.self.inside.stack.rows c.self.view_is c.requires.there c.self.invariant.0 c.index_mut-session.result.now c.turn.new.self c.index_mut-session.ensures.value (g.P.FramePort.state c.args.port.now) (g.P.FramePort.state c.turn.new.port) c.in-Changed.window c.in-Changed.drawn c.in-Changed.ensures.turned c.in-Changed.ensures.after_end c.greeted-greeted.result c.layer_of-layer.result c.follow.new.stack.layers c.count_if-self-inside.result c.count_read-self-inside.result c.layer_of-layer.ensures.sound c.layer_of-layer.ensures.is (ap (λ (s : Stacked). s.layers) c.follow.ensures) c.greeted-greeted.ensures c.count_if-self-inside.ensures c.count_read-self-inside.ensures, c.self.invariant.1)
 
 pub returns-in-Changed-clause-took : goal.returns-in-Changed-clause-took
 returns-in-Changed-clause-took g c =
-    changed-took g.O.Outlet.takes c.args.out.now c.turn.new.out c.args.guest _ c.args.self.now c.self.inside.stack.rows c.self.view_is c.requires.there c.self.invariant.0 c.index_mut-session.result.now c.turn.new.self c.index_mut-session.ensures.value (g.P.FramePort.state c.args.port.now) (g.P.FramePort.state c.turn.new.port) c.in-Changed.window c.in-Changed.drawn c.in-Changed.ensures.turned c.in-Changed.ensures.over c.greeted-greeted.result c.layer_of-layer.result c.follow.new.stack.layers c.count_if-self-inside.result c.count_read-self-inside.result c.layer_of-layer.ensures.sound c.layer_of-layer.ensures.is (ap (λ (s : Stacked). s.layers) c.follow.ensures) c.greeted-greeted.ensures c.count_if-self-inside.ensures c.count_read-self-inside.ensures
+    changed-took g.O.Outlet.takes c.args.out.now c.turn.new.out c.args.guest _ c.args.self.now c.self.inside.stack.rows c.self.view_is c.requires.there c.self.invariant.0 c.index_mut-session.result.now c.turn.new.self c.index_mut-session.ensures.value (g.P.FramePort.state c.args.port.now) (g.P.FramePort.state c.turn.new.port) c.in-Changed.window c.in-Changed.drawn c.in-Changed.ensures.turned c.in-Changed.ensures.after_end c.greeted-greeted.result c.layer_of-layer.result c.follow.new.stack.layers c.count_if-self-inside.result c.count_read-self-inside.result c.layer_of-layer.ensures.sound c.layer_of-layer.ensures.is (ap (λ (s : Stacked). s.layers) c.follow.ensures) c.greeted-greeted.ensures c.count_if-self-inside.ensures c.count_read-self-inside.ensures
 
 pub returns-in-Changed-clause-fewer : goal.returns-in-Changed-clause-fewer
 returns-in-Changed-clause-fewer g c =
-    λ _. changed-fewer g.O.Outlet.takes c.args.out.now c.turn.new.out c.args.guest _ c.args.self.now c.self.inside.stack.rows c.self.view_is c.requires.there c.self.invariant.0 c.index_mut-session.result.now c.turn.new.self c.index_mut-session.ensures.value (g.P.FramePort.state c.args.port.now) (g.P.FramePort.state c.turn.new.port) c.in-Changed.window c.in-Changed.drawn c.in-Changed.ensures.turned c.in-Changed.ensures.over c.follow.new.stack.layers c.count_if-self-inside.result c.count_read-self-inside.result
+    λ _. changed-fewer g.O.Outlet.takes c.args.out.now c.turn.new.out c.args.guest _ c.args.self.now c.self.inside.stack.rows c.self.view_is c.requires.there c.self.invariant.0 c.index_mut-session.result.now c.turn.new.self c.index_mut-session.ensures.value (g.P.FramePort.state c.args.port.now) (g.P.FramePort.state c.turn.new.port) c.in-Changed.window c.in-Changed.drawn c.in-Changed.ensures.turned c.in-Changed.ensures.after_end c.follow.new.stack.layers c.count_if-self-inside.result c.count_read-self-inside.result
 
 pub returns-in-Changed-clause-alone : goal.returns-in-Changed-clause-alone
 returns-in-Changed-clause-alone g c =
-    changed-alone g.O.Outlet.takes c.args.out.now c.turn.new.out c.args.guest _ c.args.self.now c.self.inside.stack.rows c.self.view_is c.requires.there c.self.invariant.0 c.index_mut-session.result.now c.turn.new.self c.index_mut-session.ensures.value (g.P.FramePort.state c.args.port.now) (g.P.FramePort.state c.turn.new.port) c.in-Changed.window c.in-Changed.drawn c.in-Changed.ensures.turned c.in-Changed.ensures.over c.greeted-greeted.result c.layer_of-layer.result c.follow.new.stack.layers c.count_if-self-inside.result c.count_read-self-inside.result c.layer_of-layer.ensures.sound c.layer_of-layer.ensures.is (ap (λ (s : Stacked). s.layers) c.follow.ensures) c.greeted-greeted.ensures c.count_if-self-inside.ensures c.count_read-self-inside.ensures
+    changed-alone g.O.Outlet.takes c.args.out.now c.turn.new.out c.args.guest _ c.args.self.now c.self.inside.stack.rows c.self.view_is c.requires.there c.self.invariant.0 c.index_mut-session.result.now c.turn.new.self c.index_mut-session.ensures.value (g.P.FramePort.state c.args.port.now) (g.P.FramePort.state c.turn.new.port) c.in-Changed.window c.in-Changed.drawn c.in-Changed.ensures.turned c.in-Changed.ensures.after_end c.greeted-greeted.result c.layer_of-layer.result c.follow.new.stack.layers c.count_if-self-inside.result c.count_read-self-inside.result c.layer_of-layer.ensures.sound c.layer_of-layer.ensures.is (ap (λ (s : Stacked). s.layers) c.follow.ensures) c.greeted-greeted.ensures c.count_if-self-inside.ensures c.count_read-self-inside.ensures
 
 -- ---- clipboard data
 
 pub clip_done-requires : goal.clip_done-requires
 clip_done-requires g c =
-    clip-there g.O.Outlet.takes c.args.out.now c.turn.new.out c.args.guest _ c.args.self.now c.self.inside.stack.rows c.self.view_is c.requires.there c.self.invariant.0 c.index_mut-session.result.now c.turn.new.self c.index_mut-session.ensures.value (g.P.FramePort.state c.args.port.now) (g.P.FramePort.state c.turn.new.port) c.turn.result (clip-busy c.turn.result c.in-ClipWhole.is) c.turn.ensures.turned c.turn.ensures.over
+    clip-there g.O.Outlet.takes c.args.out.now c.turn.new.out c.args.guest _ c.args.self.now c.self.inside.stack.rows c.self.view_is c.requires.there c.self.invariant.0 c.index_mut-session.result.now c.turn.new.self c.index_mut-session.ensures.value (g.P.FramePort.state c.args.port.now) (g.P.FramePort.state c.turn.new.port) c.turn.result (clip-busy c.turn.result c.in-ClipWhole.is) c.turn.ensures.turned c.turn.ensures.after_end
 
 pub invariant_of-self-in-ClipWhole : goal.invariant_of-self-in-ClipWhole
 invariant_of-self-in-ClipWhole g c =
-    (clip-kept g.O.Outlet.takes c.args.out.now c.turn.new.out c.args.guest _ c.args.self.now c.self.inside.stack.rows c.self.view_is c.requires.there c.self.invariant.0 c.index_mut-session.result.now c.turn.new.self c.index_mut-session.ensures.value (g.P.FramePort.state c.args.port.now) (g.P.FramePort.state c.turn.new.port) c.turn.result (clip-busy c.turn.result c.in-ClipWhole.is) c.turn.ensures.turned c.turn.ensures.over c.clip_done.new.self c.count_if-self-inside-in-ClipWhole.result c.clip_done.ensures.kept c.clip_done.ensures.drops c.clip_done.ensures.greeted c.count_if-self-inside-in-ClipWhole.ensures, c.self.invariant.1)
+    (clip-kept g.O.Outlet.takes c.args.out.now c.turn.new.out c.args.guest _ c.args.self.now c.self.inside.stack.rows c.self.view_is c.requires.there c.self.invariant.0 c.index_mut-session.result.now c.turn.new.self c.index_mut-session.ensures.value (g.P.FramePort.state c.args.port.now) (g.P.FramePort.state c.turn.new.port) c.turn.result (clip-busy c.turn.result c.in-ClipWhole.is) c.turn.ensures.turned c.turn.ensures.after_end c.clip_done.new.self c.count_if-self-inside-in-ClipWhole.result c.clip_done.ensures.kept c.clip_done.ensures.drops c.clip_done.ensures.greeted c.count_if-self-inside-in-ClipWhole.ensures, c.self.invariant.1)
 
 pub returns-in-ClipWhole-clause-took : goal.returns-in-ClipWhole-clause-took
 returns-in-ClipWhole-clause-took g c =
-    clip-took g.O.Outlet.takes c.args.out.now c.turn.new.out c.args.guest _ c.args.self.now c.self.inside.stack.rows c.self.view_is c.requires.there c.self.invariant.0 c.index_mut-session.result.now c.turn.new.self c.index_mut-session.ensures.value (g.P.FramePort.state c.args.port.now) (g.P.FramePort.state c.turn.new.port) c.turn.result (clip-busy c.turn.result c.in-ClipWhole.is) c.turn.ensures.turned c.turn.ensures.over c.clip_done.new.self c.count_if-self-inside-in-ClipWhole.result c.clip_done.ensures.kept c.clip_done.ensures.drops c.clip_done.ensures.greeted c.count_if-self-inside-in-ClipWhole.ensures
+    clip-took g.O.Outlet.takes c.args.out.now c.turn.new.out c.args.guest _ c.args.self.now c.self.inside.stack.rows c.self.view_is c.requires.there c.self.invariant.0 c.index_mut-session.result.now c.turn.new.self c.index_mut-session.ensures.value (g.P.FramePort.state c.args.port.now) (g.P.FramePort.state c.turn.new.port) c.turn.result (clip-busy c.turn.result c.in-ClipWhole.is) c.turn.ensures.turned c.turn.ensures.after_end c.clip_done.new.self c.count_if-self-inside-in-ClipWhole.result c.clip_done.ensures.kept c.clip_done.ensures.drops c.clip_done.ensures.greeted c.count_if-self-inside-in-ClipWhole.ensures
 
 pub returns-in-ClipWhole-clause-fewer : goal.returns-in-ClipWhole-clause-fewer
 returns-in-ClipWhole-clause-fewer g c =
-    λ _. clip-fewer g.O.Outlet.takes c.args.out.now c.turn.new.out c.args.guest _ c.args.self.now c.self.inside.stack.rows c.self.view_is c.requires.there c.self.invariant.0 c.index_mut-session.result.now c.turn.new.self c.index_mut-session.ensures.value (g.P.FramePort.state c.args.port.now) (g.P.FramePort.state c.turn.new.port) c.turn.result (clip-busy c.turn.result c.in-ClipWhole.is) c.turn.ensures.turned c.turn.ensures.over c.clip_done.new.self c.count_if-self-inside-in-ClipWhole.result c.clip_done.ensures.kept c.clip_done.ensures.drops c.clip_done.ensures.greeted c.count_if-self-inside-in-ClipWhole.ensures
+    λ _. clip-fewer g.O.Outlet.takes c.args.out.now c.turn.new.out c.args.guest _ c.args.self.now c.self.inside.stack.rows c.self.view_is c.requires.there c.self.invariant.0 c.index_mut-session.result.now c.turn.new.self c.index_mut-session.ensures.value (g.P.FramePort.state c.args.port.now) (g.P.FramePort.state c.turn.new.port) c.turn.result (clip-busy c.turn.result c.in-ClipWhole.is) c.turn.ensures.turned c.turn.ensures.after_end c.clip_done.new.self c.count_if-self-inside-in-ClipWhole.result c.clip_done.ensures.kept c.clip_done.ensures.drops c.clip_done.ensures.greeted c.count_if-self-inside-in-ClipWhole.ensures
 
 pub returns-in-ClipWhole-clause-alone : goal.returns-in-ClipWhole-clause-alone
 returns-in-ClipWhole-clause-alone g c =
-    clip-alone g.O.Outlet.takes c.args.out.now c.turn.new.out c.args.guest _ c.args.self.now c.self.inside.stack.rows c.self.view_is c.requires.there c.self.invariant.0 c.index_mut-session.result.now c.turn.new.self c.index_mut-session.ensures.value (g.P.FramePort.state c.args.port.now) (g.P.FramePort.state c.turn.new.port) c.turn.result (clip-busy c.turn.result c.in-ClipWhole.is) c.turn.ensures.turned c.turn.ensures.over c.clip_done.new.self c.count_if-self-inside-in-ClipWhole.result c.clip_done.ensures.kept c.clip_done.ensures.drops c.clip_done.ensures.greeted c.count_if-self-inside-in-ClipWhole.ensures
+    clip-alone g.O.Outlet.takes c.args.out.now c.turn.new.out c.args.guest _ c.args.self.now c.self.inside.stack.rows c.self.view_is c.requires.there c.self.invariant.0 c.index_mut-session.result.now c.turn.new.self c.index_mut-session.ensures.value (g.P.FramePort.state c.args.port.now) (g.P.FramePort.state c.turn.new.port) c.turn.result (clip-busy c.turn.result c.in-ClipWhole.is) c.turn.ensures.turned c.turn.ensures.after_end c.clip_done.new.self c.count_if-self-inside-in-ClipWhole.result c.clip_done.ensures.kept c.clip_done.ensures.drops c.clip_done.ensures.greeted c.count_if-self-inside-in-ClipWhole.ensures
 
 -- ---- the end of the session
 
@@ -82,24 +82,24 @@ pub invariant_of-self-in-Ended : goal.invariant_of-self-in-Ended
 invariant_of-self-in-Ended g c =
     let i = c.self.inside in
     let S : Stacked → Type 0 = λ s. IsKept s.rows (record { border = i.border; labels = i.labels.items; sessions = slice_set i.sessions.items c.args.guest c.turn.new.self; layers = s.layers; items = i.items; messages = i.messages; glances = i.glances; picture = i.picture }) × (s.rows ≤ vec_capacity i.shown) in
-    subst S (sym c.leave_guest.ensures) (ended-kept g.O.Outlet.takes c.args.out.now c.turn.new.out c.args.guest _ c.args.self.now c.self.inside.stack.rows c.self.view_is c.requires.there c.self.invariant.0 c.index_mut-session.result.now c.turn.new.self c.index_mut-session.ensures.value (g.P.FramePort.state c.args.port.now) (g.P.FramePort.state c.turn.new.port) c.in-Ended.cause c.ended.new.self c.ended.ensures c.in-Ended.ensures.turned c.in-Ended.ensures.over, c.self.invariant.1)
+    subst S (sym c.leave_guest.ensures) (ended-kept g.O.Outlet.takes c.args.out.now c.turn.new.out c.args.guest _ c.args.self.now c.self.inside.stack.rows c.self.view_is c.requires.there c.self.invariant.0 c.index_mut-session.result.now c.turn.new.self c.index_mut-session.ensures.value (g.P.FramePort.state c.args.port.now) (g.P.FramePort.state c.turn.new.port) c.in-Ended.cause c.ended.new.self c.ended.ensures c.in-Ended.ensures.turned c.in-Ended.ensures.after_end, c.self.invariant.1)
 
 pub returns-in-Ended-clause-took : goal.returns-in-Ended-clause-took
 returns-in-Ended-clause-took g c =
     let i = c.self.inside in
     let S : Stacked → Type 0 = λ s. (setup : Setup) (held : List ℕ) (state : DeskState) → PartStands setup c.args.guest held (part_of c.args.guest c.args.self.now) (g.P.FramePort.state c.args.port.now c.args.guest) state
     → TookSome g.O.Outlet.takes c.args.out.now c.ended.new.self setup c.args.guest held (part_of c.args.guest c.args.self.now) (part_of c.args.guest (record { border = i.border; labels = i.labels.items; sessions = slice_set i.sessions.items c.args.guest c.turn.new.self; layers = s.layers; items = i.items; messages = i.messages; glances = i.glances; picture = i.picture })) (g.P.FramePort.state c.turn.new.port c.args.guest) state in
-    subst S (sym c.leave_guest.ensures) (ended-took g.O.Outlet.takes c.args.out.now c.turn.new.out c.args.guest _ c.args.self.now c.self.inside.stack.rows c.self.view_is c.requires.there c.self.invariant.0 c.index_mut-session.result.now c.turn.new.self c.index_mut-session.ensures.value (g.P.FramePort.state c.args.port.now) (g.P.FramePort.state c.turn.new.port) c.in-Ended.cause c.ended.new.self c.ended.ensures c.in-Ended.ensures.turned c.in-Ended.ensures.over)
+    subst S (sym c.leave_guest.ensures) (ended-took g.O.Outlet.takes c.args.out.now c.turn.new.out c.args.guest _ c.args.self.now c.self.inside.stack.rows c.self.view_is c.requires.there c.self.invariant.0 c.index_mut-session.result.now c.turn.new.self c.index_mut-session.ensures.value (g.P.FramePort.state c.args.port.now) (g.P.FramePort.state c.turn.new.port) c.in-Ended.cause c.ended.new.self c.ended.ensures c.in-Ended.ensures.turned c.in-Ended.ensures.after_end)
 
 pub returns-in-Ended-clause-settled : goal.returns-in-Ended-clause-settled
 returns-in-Ended-clause-settled g c =
     λ _.
     let i = c.self.inside in
     let S : Stacked → Type 0 = λ s. Settled (session_in c.args.guest (record { border = i.border; labels = i.labels.items; sessions = slice_set i.sessions.items c.args.guest c.turn.new.self; layers = s.layers; items = i.items; messages = i.messages; glances = i.glances; picture = i.picture })) in
-    subst S (sym c.leave_guest.ensures) (ended-settled g.O.Outlet.takes c.args.out.now c.turn.new.out c.args.guest _ c.args.self.now c.self.inside.stack.rows c.self.view_is c.requires.there c.self.invariant.0 c.index_mut-session.result.now c.turn.new.self c.index_mut-session.ensures.value (g.P.FramePort.state c.args.port.now) (g.P.FramePort.state c.turn.new.port) c.in-Ended.cause c.ended.new.self c.ended.ensures c.in-Ended.ensures.turned c.in-Ended.ensures.over)
+    subst S (sym c.leave_guest.ensures) (ended-settled g.O.Outlet.takes c.args.out.now c.turn.new.out c.args.guest _ c.args.self.now c.self.inside.stack.rows c.self.view_is c.requires.there c.self.invariant.0 c.index_mut-session.result.now c.turn.new.self c.index_mut-session.ensures.value (g.P.FramePort.state c.args.port.now) (g.P.FramePort.state c.turn.new.port) c.in-Ended.cause c.ended.new.self c.ended.ensures c.in-Ended.ensures.turned c.in-Ended.ensures.after_end)
 
 pub returns-in-Ended-clause-alone : goal.returns-in-Ended-clause-alone
 returns-in-Ended-clause-alone g c =
     let i = c.self.inside in
     let S : Stacked → Type 0 = λ s. ChangesPart c.args.guest c.args.self.now (record { border = i.border; labels = i.labels.items; sessions = slice_set i.sessions.items c.args.guest c.turn.new.self; layers = s.layers; items = i.items; messages = i.messages; glances = i.glances; picture = i.picture }) in
-    subst S (sym c.leave_guest.ensures) (ended-alone g.O.Outlet.takes c.args.out.now c.turn.new.out c.args.guest _ c.args.self.now c.self.inside.stack.rows c.self.view_is c.requires.there c.self.invariant.0 c.index_mut-session.result.now c.turn.new.self c.index_mut-session.ensures.value (g.P.FramePort.state c.args.port.now) (g.P.FramePort.state c.turn.new.port) c.in-Ended.cause c.ended.new.self c.ended.ensures c.in-Ended.ensures.turned c.in-Ended.ensures.over)
+    subst S (sym c.leave_guest.ensures) (ended-alone g.O.Outlet.takes c.args.out.now c.turn.new.out c.args.guest _ c.args.self.now c.self.inside.stack.rows c.self.view_is c.requires.there c.self.invariant.0 c.index_mut-session.result.now c.turn.new.self c.index_mut-session.ensures.value (g.P.FramePort.state c.args.port.now) (g.P.FramePort.state c.turn.new.port) c.in-Ended.cause c.ended.new.self c.ended.ensures c.in-Ended.ensures.turned c.in-Ended.ensures.after_end)

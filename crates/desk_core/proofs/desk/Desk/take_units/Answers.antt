@@ -1,4 +1,5 @@
-use Rattle.std.proofs.Common.{◌∙◌, refl}
+use Rattle.std.proofs.Common.{refl}
+use Rattle.frame_pool.proofs.PortLemmas.{frames-changed_twice, frames-unchanged}
 use Rattle.desk_core.specs.DeskView.{part_of}
 use Rattle.desk_core.proofs.JoinLemmas.{alone-both, alone-none}
 use Rattle.desk_core.proofs.UnitTurns.{stays-took}
@@ -10,9 +11,7 @@ loop-init g c =
     let guest = c.args.guest in
     record {
       alone = alone-none guest c.args.self.now;
-      others = λ other apart. refl;
-      port_guests = refl;
-      port_pages = refl;
+      port = frames-unchanged c.args.port.now;
       took = λ setup held state stands.
           stays-took g.O.Outlet.takes c.args.out.now setup guest held (part_of guest c.args.self.now) (g.P.FramePort.state c.args.port.now guest) (g.P.FramePort.state c.args.port.now guest) state stands refl;
     }
@@ -24,9 +23,7 @@ loop-preserved g c =
     let turn = c.take_turn.ensures in
     record {
       alone = alone-both guest c.args.self.now c.loop.self c.take_turn.new.self done.alone turn.alone;
-      others = λ other apart. turn.others other apart ∙ done.others other apart;
-      port_guests = turn.port_guests ∙ done.port_guests;
-      port_pages = turn.port_pages ∙ done.port_pages;
+      port = frames-changed_twice done.port turn.port;
       took = λ setup held state stands.
           let first = done.took setup held state stands in
           took-more g.O.Outlet.takes c.args.out.now c.loop.out c.take_turn.new.out setup guest held (part_of guest c.args.self.now) (part_of guest c.loop.self) (part_of guest c.take_turn.new.self)

@@ -1,6 +1,7 @@
-use Rattle.std.proofs.Common.{◌≡◌, ◌≢◌, ℕ, List}
+use Rattle.std.proofs.Common.{◌≡◌, ℕ, List}
 use Rattle.desk_laws.specs.declared.setup.Setup.{Setup}
 use Rattle.desk_laws.specs.State.{DeskState}
+use Rattle.frame_pool.specs.Ports.{ChangesFrames}
 use Rattle.desk_core.specs.DeskView.{ChangesPart, part_of, session_in}
 use Rattle.desk_core.specs.DeskStands.{PartStands}
 use Rattle.desk_core.specs.PieceSteps.{TookSome, held_by}
@@ -9,9 +10,7 @@ use Rattle.desk_core.proofs.desk.Desk.take_units.Given as goal
 abbrev pub invariant-loop : goal.invariant-loop
 invariant-loop g l = record {
   alone : ChangesPart l.guest l.initial.self l.self;
-  others : (other : ℕ) → other ≢ l.guest → g.P.FramePort.state l.port other ≡ g.P.FramePort.state l.initial.port other;
-  port_guests : g.P.FramePort.guests l.port ≡ g.P.FramePort.guests l.initial.port;
-  port_pages : g.P.FramePort.pages l.port ≡ g.P.FramePort.pages l.initial.port;
+  port : ChangesFrames g.P.FramePort.guests g.P.FramePort.pages g.P.FramePort.state l.guest l.initial.port l.port;
   took : (setup : Setup) (held : List ℕ) (state : DeskState) → PartStands setup l.guest held (part_of l.guest l.initial.self) (g.P.FramePort.state l.initial.port l.guest) state
       → TookSome g.O.Outlet.takes l.initial.out l.out setup l.guest held (part_of l.guest l.initial.self) (part_of l.guest l.self) (g.P.FramePort.state l.port l.guest) state;
 }

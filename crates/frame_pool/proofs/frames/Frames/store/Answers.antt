@@ -10,7 +10,7 @@ invariant_of-self c =
     let lies : LiesIn (length c.settle.new.glass) c.waiting_store.result = subst (λ s. LiesIn (length c.settle.new.glass) s) (sym c.waiting_store.ensures)
     (record { page = omega (arith, len, pages, c.requires.page); offset = c.requires.offset; whole = c.requires.whole; end = c.requires.end }) in
     let few : length c.push_reserved.new.self.items ≤ 64 =
-    omega (arith, ap length c.push_reserved.ensures.items, length-append c.settle.new.waiting.items (c.waiting_store.result ∷ []), c.settle.ensures.few, c.self.invariant.1.1.0, c.if-len-lt-WAITING.true) in (
+    omega (arith, ap length c.push_reserved.ensures.items, length-append c.settle.new.waiting.items (c.waiting_store.result ∷ []), c.settle.ensures.few, c.self.invariant.1.1.0, c.if-len.true) in (
       len,
       (
         subst (λ xs. AllLieIn (length c.settle.new.glass) xs) (sym c.push_reserved.ensures.items)

@@ -17,8 +17,8 @@ use Rattle.tile_store.proofs.WholeLemmas.{all-keeps, whole-with, whole-written}
 use Rattle.tile_store.proofs.UsedLemmas.{all-found, grid-none, grid-some}
 use Rattle.window_table.specs.Entries.{Entry, entry_at}
 use Rattle.guest_session.specs.RowsView.{contents_in, is_owned}
-use Rattle.guest_session.specs.Reading.{area_loads, rect_of, tiles_drawn}
-use Rattle.guest_session.specs.Drawing.{read_into}
+use Rattle.guest_session.specs.Reading.{area_loads, rect_of, tiles_coloured}
+use Rattle.guest_session.specs.ReadTiles.{read_into}
 use Rattle.guest_session.proofs.GridLemmas.{grid-same, grid-all, set-grid, with_at}
 
 -- the spot of a slot's pixel
@@ -69,11 +69,11 @@ put-held slot p colour ps ts =
 -- ---- one pixel after the other
 
 -- what was read of a window after its pixels were drawn
-drawn-own : (slot w h : ℕ) (ps : List (ℕ × ℕ)) (ws : List ℕ) (ts : List Tile) → are_whole ts ≡ true → are_held slot ps ts ≡ true →
-    list_all (λ p. ltb p.0 w && ltb p.1 h) ps ≡ true → contents_in slot w h (tiles_drawn slot ps ws ts) ≡ drawn w (contents_in slot w h ts) ps ws
-drawn-own slot w h [] ws ts whole held within = refl
-drawn-own slot w h (p ∷ ps) [] ts whole held within = refl
-drawn-own slot w h (p ∷ ps) (v ∷ ws) ts whole held within =
+coloured-own : (slot w h : ℕ) (ps : List (ℕ × ℕ)) (ws : List ℕ) (ts : List Tile) → are_whole ts ≡ true → are_held slot ps ts ≡ true →
+    list_all (λ p. ltb p.0 w && ltb p.1 h) ps ≡ true → contents_in slot w h (tiles_coloured slot ps ws ts) ≡ drawn w (contents_in slot w h ts) ps ws
+coloured-own slot w h [] ws ts whole held within = refl
+coloured-own slot w h (p ∷ ps) [] ts whole held within = refl
+coloured-own slot w h (p ∷ ps) (v ∷ ws) ts whole held within =
     let c : ℕ = v % 2 ^ 24 in
     let helds = and_parts (is_held (spot_for slot p) ts) (are_held slot ps ts) held in
     let withins = and_parts (ltb p.0 w && ltb p.1 h) (list_all (λ q. ltb q.0 w && ltb q.1 h) ps) within in
@@ -84,18 +84,18 @@ drawn-own slot w h (p ∷ ps) (v ∷ ws) ts whole held within =
     put-one slot p c ts helds.0 whole slot x y
     ∙ ap (λ b. cond (b && eqb x p.0 && eqb y p.1) (Some c) (colour_at slot x y ts)) (eq-eqb slot slot refl))
     ∙ sym (set-grid (λ q. colour_at slot q.0 q.1 ts) None (Some c) w h p.0 p.1 (ltb-true p.0 w sides.0) (ltb-true p.1 h sides.1)) in
-    drawn-own slot w h ps ws (put_at slot p c ts) (whole-written (spot_for slot p) (pixel_for p) c ts whole) (put-held slot p c ps ts ∙ helds.1) withins.1
+    coloured-own slot w h ps ws (put_at slot p c ts) (whole-written (spot_for slot p) (pixel_for p) c ts whole) (put-held slot p c ps ts ∙ helds.1) withins.1
     ∙ ap (λ cs. drawn w cs ps ws) one
 
 -- a pixel that is none of these is as before
-drawn-other : (slot : ℕ) (ps : List (ℕ × ℕ)) (ws : List ℕ) (ts : List Tile) (s x y : ℕ) → list_any (λ p. eqb s slot && eqb x p.0 && eqb y p.1) ps ≡ false →
-    colour_at s x y (tiles_drawn slot ps ws ts) ≡ colour_at s x y ts
-drawn-other slot [] ws ts s x y none = refl
-drawn-other slot (p ∷ ps) [] ts s x y none = refl
-drawn-other slot (p ∷ ps) (v ∷ ws) ts s x y none =
+coloured-other : (slot : ℕ) (ps : List (ℕ × ℕ)) (ws : List ℕ) (ts : List Tile) (s x y : ℕ) → list_any (λ p. eqb s slot && eqb x p.0 && eqb y p.1) ps ≡ false →
+    colour_at s x y (tiles_coloured slot ps ws ts) ≡ colour_at s x y ts
+coloured-other slot [] ws ts s x y none = refl
+coloured-other slot (p ∷ ps) [] ts s x y none = refl
+coloured-other slot (p ∷ ps) (v ∷ ws) ts s x y none =
     let c : ℕ = v % 2 ^ 24 in
     let parts = or_parts (eqb s slot && eqb x p.0 && eqb y p.1) (list_any (λ q. eqb s slot && eqb x q.0 && eqb y q.1) ps) none in
-    drawn-other slot ps ws (put_at slot p c ts) s x y parts.1
+    coloured-other slot ps ws (put_at slot p c ts) s x y parts.1
     ∙ written-other (spot_for slot p) (spot_of s (x / 64, y / 64)) (pixel_for p) (y % 64 * 64 + x % 64) c ts
     (λ here one.
     let both = and_parts (eqb s slot && eqb (y / 64) (p.1 / 64)) (eqb (x / 64) (p.0 / 64)) here in
@@ -108,11 +108,11 @@ drawn-other slot (p ∷ ps) (v ∷ ws) ts s x y none =
     (and_from (eqb s slot && eqb x p.0) (eqb y p.1) (and_from (eqb s slot) (eqb x p.0) firsts.0 (eq-eqb x p.0 across)) (eq-eqb y p.1 down)))
 
 -- the tiles are whose they were
-drawn-owned : (entries : List Entry) (slot : ℕ) (ps : List (ℕ × ℕ)) (ws : List ℕ) (ts : List Tile) → list_all (is_owned entries) (tiles_drawn slot ps ws ts) ≡ list_all (is_owned entries) ts
-drawn-owned entries slot [] ws ts = refl
-drawn-owned entries slot (p ∷ ps) [] ts = refl
-drawn-owned entries slot (p ∷ ps) (v ∷ ws) ts =
-    drawn-owned entries slot ps ws (put_at slot p (v % 2 ^ 24) ts)
+coloured-owned : (entries : List Entry) (slot : ℕ) (ps : List (ℕ × ℕ)) (ws : List ℕ) (ts : List Tile) → list_all (is_owned entries) (tiles_coloured slot ps ws ts) ≡ list_all (is_owned entries) ts
+coloured-owned entries slot [] ws ts = refl
+coloured-owned entries slot (p ∷ ps) [] ts = refl
+coloured-owned entries slot (p ∷ ps) (v ∷ ws) ts =
+    coloured-owned entries slot ps ws (put_at slot p (v % 2 ^ 24) ts)
     ∙ all-keeps (is_owned entries) (written_in (spot_for slot p) (pixel_for p) (v % 2 ^ 24))
     (λ t. ap (λ (s : Spot). is_some (entry_at s.slot entries)) (written-stays (spot_for slot p) (pixel_for p) (v % 2 ^ 24) t)) ts
 
@@ -152,12 +152,12 @@ or-none : (b : Bool) → (b || false) ≡ b
 or-none true = refl
 or-none false = refl
 
-drawn-left : (slot : ℕ) (ps : List (ℕ × ℕ)) (ws : List ℕ) (ts : List Tile) → length ps ≤ length ws → are_whole ts ≡ true → list_all (is_lit slot ps) ts ≡ true →
-    list_all (λ (t : Tile). has_pixel t.square) (tiles_drawn slot ps ws ts) ≡ true
-drawn-left slot [] ws ts long whole all = all-same (λ (t : Tile). has_pixel t.square) (is_lit slot []) ts (λ t. sym (or-none (has_pixel t.square))) ∙ all
-drawn-left slot (p ∷ ps) [] ts long whole all = absurd (omega arith)
-drawn-left slot (p ∷ ps) (v ∷ ws) ts long whole all =
-    drawn-left slot ps ws (put_at slot p (v % 2 ^ 24) ts) (omega arith) (whole-written (spot_for slot p) (pixel_for p) (v % 2 ^ 24) ts whole) (put-lit slot p ps (v % 2 ^ 24) ts whole all)
+coloured-left : (slot : ℕ) (ps : List (ℕ × ℕ)) (ws : List ℕ) (ts : List Tile) → length ps ≤ length ws → are_whole ts ≡ true → list_all (is_lit slot ps) ts ≡ true →
+    list_all (λ (t : Tile). has_pixel t.square) (tiles_coloured slot ps ws ts) ≡ true
+coloured-left slot [] ws ts long whole all = all-same (λ (t : Tile). has_pixel t.square) (is_lit slot []) ts (λ t. sym (or-none (has_pixel t.square))) ∙ all
+coloured-left slot (p ∷ ps) [] ts long whole all = absurd (omega arith)
+coloured-left slot (p ∷ ps) (v ∷ ws) ts long whole all =
+    coloured-left slot ps ws (put_at slot p (v % 2 ^ 24) ts) (omega arith) (whole-written (spot_for slot p) (pixel_for p) (v % 2 ^ 24) ts whole) (put-lit slot p ps (v % 2 ^ 24) ts whole all)
 
 -- ---- tiles that are opened
 
@@ -228,7 +228,7 @@ pub read-own : (slot w h : ℕ) (a : Area) (words : List ℕ) (ts : List Tile) �
     contents_in slot w h (read_into slot a words ts) ≡ drawn w (contents_in slot w h ts) (points a) words
 read-own slot w h a words ts whole right below =
     let open_tiles = opened slot (tiles_met (rect_of a)) ts in
-    drawn-own slot w h (points a) words open_tiles (opened-whole slot (tiles_met (rect_of a)) ts whole)
+    coloured-own slot w h (points a) words open_tiles (opened-whole slot (tiles_met (rect_of a)) ts whole)
     (grid-all (λ p. is_held (spot_for slot p) open_tiles) a.x a.y a.w a.h (λ x y xl xh yl yh. opened-holds slot (rect_of a) ts x y xl xh yl yh))
     (grid-all (λ p. ltb p.0 w && ltb p.1 h) a.x a.y a.w a.h
     (λ x y xl xh yl yh.
@@ -243,7 +243,7 @@ read-other : (slot : ℕ) (a : Area) (words : List ℕ) (ts : List Tile) (s x y 
     ((p q : ℕ) → a.x ≤ p → p < a.x + a.w → a.y ≤ q → q < a.y + a.h → (eqb s slot && eqb x p && eqb y q) ≡ false) →
     colour_at s x y (read_into slot a words ts) ≡ colour_at s x y ts
 read-other slot a words ts s x y none =
-    drawn-other slot (points a) words (opened slot (tiles_met (rect_of a)) ts) s x y
+    coloured-other slot (points a) words (opened slot (tiles_met (rect_of a)) ts) s x y
     (grid-none (λ p. eqb s slot && eqb x p.0 && eqb y p.1) a.x a.y a.w a.h none)
     ∙ opened-keeps slot (tiles_met (rect_of a)) ts s x y
 
@@ -274,7 +274,7 @@ read-outside slot w h a words ts x y right below out =
 pub read-owned : (entries : List Entry) (slot : ℕ) (a : Area) (words : List ℕ) (ts : List Tile) → is_some (entry_at slot entries) ≡ true → list_all (is_owned entries) ts ≡ true →
     list_all (is_owned entries) (read_into slot a words ts) ≡ true
 read-owned entries slot a words ts has all =
-    drawn-owned entries slot (points a) words (opened slot (tiles_met (rect_of a)) ts)
+    coloured-owned entries slot (points a) words (opened slot (tiles_met (rect_of a)) ts)
     ∙ opened-all (is_owned entries) slot (tiles_met (rect_of a)) ts
     (grid-all (λ place. is_owned entries (blank_tile (spot_of slot place))) (a.x / 64) (a.y / 64) (tiles_along a.x a.w) (tiles_along a.y a.h) (λ k j _ _ _ _. has)) all
 
@@ -288,5 +288,5 @@ lit-more slot ps (t ∷ ts) all =
 pub read-left : (slot : ℕ) (a : Area) (words : List ℕ) (ts : List Tile) → length (points a) ≤ length words → are_whole ts ≡ true → list_all (λ (t : Tile). has_pixel t.square) ts ≡ true →
     list_all (λ (t : Tile). has_pixel t.square) (read_into slot a words ts) ≡ true
 read-left slot a words ts long whole all =
-    drawn-left slot (points a) words (opened slot (tiles_met (rect_of a)) ts) long (opened-whole slot (tiles_met (rect_of a)) ts whole)
+    coloured-left slot (points a) words (opened slot (tiles_met (rect_of a)) ts) long (opened-whole slot (tiles_met (rect_of a)) ts whole)
     (opened-all (is_lit slot (points a)) slot (tiles_met (rect_of a)) ts (met-lit slot a) (lit-more slot (points a) ts all))

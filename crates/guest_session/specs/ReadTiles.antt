@@ -9,7 +9,7 @@ use Rattle.desk_laws.specs.Effects.{Area, points, no_area, side_within}
 use Rattle.window_table.specs.declared.pane.DumpSize.{DumpSize}
 use Rattle.tile_store.specs.declared.shelf.Tile.{Tile}
 use Rattle.tile_store.specs.Held.{TilesView, opened, missing, tiles_met}
-use Rattle.guest_session.specs.Reading.{rect_of, drawn_by, area_loads, tiles_drawn}
+use Rattle.guest_session.specs.Reading.{rect_of, drawn_by, area_loads, tiles_coloured}
 
 -- the area of an SHMIMAGE clipped to a dump of this size and to a place
 abbrev pub clipped_to : Rect → Option DumpSize → ℕ → ℕ → ℕ → ℕ → Area
@@ -28,21 +28,21 @@ needed slot area held = missing slot (tiles_met (rect_of area)) held
 
 -- the tiles once an area of a slot has tiles and its pixels got the colours of these words
 abbrev pub read_into : ℕ → Area → List ℕ → List Tile → List Tile
-read_into slot area words held = tiles_drawn slot (points area) words (opened slot (tiles_met (rect_of area)) held)
+read_into slot area words held = tiles_coloured slot (points area) words (opened slot (tiles_met (rect_of area)) held)
 
 -- too many tiles would be taken: nothing was read
-pub record DrawsNothing (port port' : PortState) (old new : TilesView) (result : Result (Option Rect) Cause) (need : ℕ) : Type 0 where
+pub record ReadsNoTiles (port port' : PortState) (old new : TilesView) (result : Result (Option Rect) Cause) (need : ℕ) : Type 0 where
   pub answer : result ≡ Err (PixelBudget need (old.number - length old.held))
   pub tiles : new ≡ old
   pub unread : port' ≡ port
 
 -- an area of a slot was read from the frames
-pub record DrawsArea (port port' : PortState) (old new : TilesView) (result : Result (Option Rect) Cause) (slot : ℕ) (dump : Option DumpOf) (area : Area) : Type 0 where
+pub record ReadsAreaTiles (port port' : PortState) (old new : TilesView) (result : Result (Option Rect) Cause) (slot : ℕ) (dump : Option DumpOf) (area : Area) : Type 0 where
   pub answer : result ≡ Ok (drawn_by area)
   pub tiles : new ≡ record old { held = read_into slot area (area_loads port dump area).words old.held }
   pub frames : port' ≡ (area_loads port dump area).port
 
 -- what became of an area of a slot, by whether it would take too many tiles
-abbrev pub Draws : PortState → PortState → TilesView → TilesView → Result (Option Rect) Cause → ℕ → Option DumpOf → Area → Bool → Type 0
-Draws port port' old new result slot dump area true = DrawsNothing port port' old new result (needed slot area old.held)
-Draws port port' old new result slot dump area false = DrawsArea port port' old new result slot dump area
+abbrev pub ReadsTiles : PortState → PortState → TilesView → TilesView → Result (Option Rect) Cause → ℕ → Option DumpOf → Area → Bool → Type 0
+ReadsTiles port port' old new result slot dump area true = ReadsNoTiles port port' old new result (needed slot area old.held)
+ReadsTiles port port' old new result slot dump area false = ReadsAreaTiles port port' old new result slot dump area

@@ -1,12 +1,13 @@
 // The areas of windows that are read from frames.
 ghost use Rattle.std.specs.Prelude.{◌≡◌, ℕ, ◌-◌, ◌<◌, ◌^◌, ◌||◌, ◌==◌, nat_lt, true, length};
 ghost use Rattle.desk_laws.specs.Effects as effects;
+ghost use Rattle.frame_pool.specs.Ports.{ChangesFrames};
 ghost use Rattle.tile_store.specs.Held.{are_whole, rises};
 ghost use Rattle.guest_session.specs.Areas.{Covers, area_in, dump_at};
 ghost use Rattle.guest_session.specs.Reading.{rect_of};
-ghost use Rattle.guest_session.specs.Drawing.{Draws, clipped_to, needed, width_in};
+ghost use Rattle.guest_session.specs.ReadTiles.{ReadsTiles, clipped_to, needed, width_in};
 
-use crate::read::{Area, read_area};
+use crate::read::{Reported, read_area};
 use desk_laws::Cause;
 use frame_pool::FramePort;
 use gui_num::Rect;
@@ -33,14 +34,14 @@ fn side_within(from: u32, n: u32, limit: u32, other: u32) -> u32
 }
 
 // The area of an SHMIMAGE clipped to a dump of this size and to a place.
-pub(crate) fn clip(
+pub(crate) fn clipped(
     place: Rect,
     dump: Option<DumpSize>,
     x: u32,
     y: u32,
     width: u32,
     height: u32,
-) -> Area
+) -> Reported
     requires x { x < 2 ^ 31 }
     requires y { y < 2 ^ 31 }
     requires width { width < 2 ^ 31 }
@@ -48,13 +49,13 @@ pub(crate) fn clip(
     ensures { area_in result ≡ clipped_to place dump x y width height }
 {
     match dump {
-        Some(size) => Area {
+        Some(size) => Reported {
             x,
             y,
             w: side_within(x, width, size.width, place.w),
             h: side_within(y, height, size.height, place.h),
         },
-        None => Area {
+        None => Reported {
             x: 0,
             y: 0,
             w: 0,
@@ -64,14 +65,14 @@ pub(crate) fn clip(
 }
 
 // Whether an area has no pixel.
-fn is_empty(area: Area) -> bool
+fn is_empty(area: Reported) -> bool
     ensures { result ≡ (area.w == 0 || area.h == 0) }
 {
     area.w == 0 || area.h == 0
 }
 
 // An area as a rectangle of its window.
-fn rect_at(area: Area) -> Rect
+fn rect_at(area: Reported) -> Rect
     requires x { area.x < 2 ^ 31 }
     requires y { area.y < 2 ^ 31 }
     ensures { result ≡ rect_of (area_in area) }
@@ -91,7 +92,7 @@ pub(crate) fn read_at<P: FramePort>(
     table: &Table,
     slot: u32,
     dump_width: u32,
-    area: Area,
+    area: Reported,
     guest: u32,
     port: &mut P,
 ) -> Result<Option<Rect>, Cause>
@@ -99,10 +100,8 @@ pub(crate) fn read_at<P: FramePort>(
     requires covers { 0 < area.w → 0 < area.h → Covers (P.pages port.old) dump_width (area_in area) (dump_at slot table.now.entries) }
     ensures rising { rises tiles.old.held ≡ true }
     ensures whole { are_whole tiles.old.held ≡ true }
-    ensures draws { Draws (P.state port.old guest) (P.state port.new guest) tiles.old tiles.new result slot (dump_at slot table.now.entries) (area_in area) (nat_lt (tiles.old.number - length tiles.old.held) (needed slot (area_in area) tiles.old.held)) }
-    ensures others { (other : ℕ) → (other ≡ guest → ⊥) → P.state port.new other ≡ P.state port.old other }
-    ensures guests { P.guests port.new ≡ P.guests port.old }
-    ensures pages { P.pages port.new ≡ P.pages port.old }
+    ensures filled { ReadsTiles (P.state port.old guest) (P.state port.new guest) tiles.old tiles.new result slot (dump_at slot table.now.entries) (area_in area) (nat_lt (tiles.old.number - length tiles.old.held) (needed slot (area_in area) tiles.old.held)) }
+    ensures port { ChangesFrames P.guests P.pages P.state guest port.old port.new }
 {
     let free = tiles.free();
     if is_empty(area) {

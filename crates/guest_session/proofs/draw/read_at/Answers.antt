@@ -1,9 +1,0 @@
-use Rattle.std.proofs.Common.{◌∙◌, sym}
-use Rattle.guest_session.specs.Areas.{area_in, dump_at}
-use Rattle.guest_session.proofs.ReadLemmas.{draws-empty, is-empty}
-use Rattle.guest_session.proofs.draw.read_at.Goals as goal
-
-pub returns-then-is_empty-clause-draws : goal.returns-then-is_empty-clause-draws
-returns-then-is_empty-clause-draws g c =
-    draws-empty (g.P.FramePort.state c.args.port.now c.args.guest) c.args.tiles.now c.args.slot (dump_at c.args.slot c.args.table.now.entries) (area_in c.args.area)
-    (is-empty (area_in c.args.area) (sym c.is_empty.ensures ∙ c.if-is_empty.true))
