@@ -37,14 +37,14 @@ invariant_of-self c =
     let tape = Tape (slice_index_or port.tapes old.guest []) in
     let tape' = Tape (slice_index_or c.turn.new.port.tapes old.guest []) in
     let kept = turn-kept KeepsPost c.args.self.now.out c.turn.new.out tape tape' old c.turn.new.self c.turn.result
-    c.turn.ensures.turned (λ cause e. (c.turn.ensures.over cause e).1) in
+    c.turn.ensures.turned (λ cause e. (c.turn.ensures.after_end cause e).1) in
     let after : Kept old c.clip_done.new.self = record {
       guest = ap (λ (s : SessionView). s.guest) c.clip_done.ensures.kept ∙ kept.guest;
       sizes = ap (λ (s : SessionView). s.sizes) c.clip_done.ensures.kept ∙ kept.sizes;
     } in
     record {
-      guest = still-below old c.clip_done.new.self (length port.tapes) (length c.turn.new.port.tapes) after c.turn.ensures.guests c.args.self.now.guest;
-      pages = still-as_many old c.clip_done.new.self port.pages c.turn.new.port.pages after c.turn.ensures.port_pages c.args.self.now.pages;
+      guest = still-below old c.clip_done.new.self (length port.tapes) (length c.turn.new.port.tapes) after c.turn.ensures.port.extent.guests c.args.self.now.guest;
+      pages = still-as_many old c.clip_done.new.self port.pages c.turn.new.port.pages after c.turn.ensures.port.extent.pages c.args.self.now.pages;
     }
 
 pub invariant_of-self-in_default : goal.invariant_of-self-in_default
@@ -54,8 +54,8 @@ invariant_of-self-in_default c =
     let tape = Tape (slice_index_or port.tapes old.guest []) in
     let tape' = Tape (slice_index_or c.turn.new.port.tapes old.guest []) in
     let kept = turn-kept KeepsPost c.args.self.now.out c.turn.new.out tape tape' old c.turn.new.self c.turn.result
-    c.turn.ensures.turned (λ cause e. (c.turn.ensures.over cause e).1) in
+    c.turn.ensures.turned (λ cause e. (c.turn.ensures.after_end cause e).1) in
     record {
-      guest = still-below old c.turn.new.self (length port.tapes) (length c.turn.new.port.tapes) kept c.turn.ensures.guests c.args.self.now.guest;
-      pages = still-as_many old c.turn.new.self port.pages c.turn.new.port.pages kept c.turn.ensures.port_pages c.args.self.now.pages;
+      guest = still-below old c.turn.new.self (length port.tapes) (length c.turn.new.port.tapes) kept c.turn.ensures.port.extent.guests c.args.self.now.guest;
+      pages = still-as_many old c.turn.new.self port.pages c.turn.new.port.pages kept c.turn.ensures.port.extent.pages c.args.self.now.pages;
     }

@@ -10,8 +10,8 @@ invariant_of-self c =
     let old = c.args.self.now.session in
     let port = c.args.self.now.port in
     let kept = turn-kept KeepsPost c.args.self.now.out c.turn.new.out (Tape (slice_index_or port.tapes old.guest [])) (Tape (slice_index_or c.turn.new.port.tapes old.guest [])) old c.turn.new.self c.turn.result
-    c.turn.ensures.turned (λ cause e. (c.turn.ensures.over cause e).1) in
+    c.turn.ensures.turned (λ cause e. (c.turn.ensures.after_end cause e).1) in
     record {
-      guest = still-below old c.turn.new.self (length port.tapes) (length c.turn.new.port.tapes) kept c.turn.ensures.guests c.args.self.now.guest;
-      pages = still-as_many old c.turn.new.self port.pages c.turn.new.port.pages kept c.turn.ensures.port_pages c.args.self.now.pages;
+      guest = still-below old c.turn.new.self (length port.tapes) (length c.turn.new.port.tapes) kept c.turn.ensures.port.extent.guests c.args.self.now.guest;
+      pages = still-as_many old c.turn.new.self port.pages c.turn.new.port.pages kept c.turn.ensures.port.extent.pages c.args.self.now.pages;
     }
