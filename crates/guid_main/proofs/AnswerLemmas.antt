@@ -59,7 +59,7 @@ done_says : {S : Type 0} (left : S → Option (List ℕ)) (faults : S → ℕ) (
 done_says left faults keeps setup a b bytes given before after going guests pages at told fed ends short grown =
     let took = fed_end left faults keeps a b ends.front bytes going told ends.no_end (subst (λ (l : List FedItem). Fed (FeedGives left faults keeps) a l None b) ends.is fed) in
     let found : items_from (length setup.guests) setup.pages (config_len setup) bytes ≡ record { each = ends.front; ending = Ends } =
-    (λ i. items_from (sym guests i) (sym pages i) (sym at i) bytes) ∙ ap (items_from a.guests a.pages a.at) took.split ∙ took.holds took.rest in (
+    (λ i. items_from (sym guests i) (sym pages i) (sym at i) bytes) ∙ ap (items_from a.guests a.pages a.at) took.split ∙ took.holds.1 took.rest in (
       (
         ap (λ (f : Items). f.ending) found,
         omega (arith, ap (λ (f : Items). length f.each) found, ap length ends.is, length-append ends.front (alone items.End ∷ []), short),
@@ -97,14 +97,14 @@ write_says left faults keeps setup a b bytes given before after going guests pag
     let gone = fed_going left faults keeps a b given bytes going told none fed in
     took_so bytes (left b.source) _ _ (λ taken is.
     let found : items_from (length setup.guests) setup.pages (config_len setup) taken ≡ record { each = given; ending = Faulty (fault b.at kinds.Short) } =
-    (λ i. items_from (sym guests i) (sym pages i) (sym at i) taken) ∙ ap (items_from a.guests a.pages a.at) (sym (append-nil taken)) ∙ is []
+    (λ i. items_from (sym guests i) (sym pages i) (sym at i) taken) ∙ ap (items_from a.guests a.pages a.at) (sym (append-nil taken)) ∙ is.1 []
     ∙ ap (with_front given) (from_none a.guests a.pages b.at) ∙ ap (λ (l : List FedItem). record { each = l; ending = Faulty (fault b.at kinds.Short) }) (append-nil given) in
     part_so before after _ _ (same_output setup _ _ given found (whole_faulty given (fault b.at kinds.Short))) part) gone.took
 write_says left faults keeps setup a b bytes given before after going guests pages at told fed (inr ends) part =
     let took = fed_end left faults keeps a b ends.front bytes going told ends.no_end (subst (λ (l : List FedItem). Fed (FeedGives left faults keeps) a l None b) ends.is fed) in
     took_so bytes (left b.source) _ _ (λ taken is.
     let found : items_from (length setup.guests) setup.pages (config_len setup) taken ≡ record { each = ends.front; ending = Ends } =
-    (λ i. items_from (sym guests i) (sym pages i) (sym at i) taken) ∙ ap (items_from a.guests a.pages a.at) (sym (append-nil taken)) ∙ is [] in
+    (λ i. items_from (sym guests i) (sym pages i) (sym at i) taken) ∙ ap (items_from a.guests a.pages a.at) (sym (append-nil taken)) ∙ is.1 [] in
     part_so before after _ _ (same_output setup _ _ given found (sym ends.is)) part) took
 
 long_says : {S : Type 0} (left : S → Option (List ℕ)) (faults : S → ℕ) (keeps : S → S → Type 0) (setup : Setup) (a b : FeedView S) (bytes : List ℕ) (given : List FedItem) (before after : Option (List ℕ))
@@ -115,7 +115,7 @@ long_says left faults keeps setup a b bytes given before after going guests page
     let gone = fed_going left faults keeps a b given bytes going told none fed in
     let behind = items_from a.guests a.pages b.at gone.took.rest in
     let found : items_from (length setup.guests) setup.pages (config_len setup) bytes ≡ with_front given behind =
-    (λ i. items_from (sym guests i) (sym pages i) (sym at i) bytes) ∙ ap (items_from a.guests a.pages a.at) gone.took.split ∙ gone.took.holds gone.took.rest in
+    (λ i. items_from (sym guests i) (sym pages i) (sym at i) bytes) ∙ ap (items_from a.guests a.pages a.at) gone.took.split ∙ gone.took.holds.1 gone.took.rest in
     let each : (items_from (length setup.guests) setup.pages (config_len setup) bytes).each ≡ given ++ behind.each = ap (λ (f : Items). f.each) found in (
       omega (arith, ap length each, length-append given behind.each, long),
       grows_so before after _ _ (ap (output setup) (sym (ap (take most_items) each ∙ take_at given behind.each most_items long))) grown,

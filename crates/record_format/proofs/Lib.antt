@@ -5,3 +5,6 @@ pub mod ReadItemLemmas
 pub mod SetupLemmas
 pub mod ConfigLemmas
 pub mod PostLemmas
+pub mod ReadConfigLemmas
+pub mod ItemAtLemmas
+pub mod RecordLemmas

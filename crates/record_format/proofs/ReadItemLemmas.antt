@@ -1,10 +1,11 @@
 -- What is read of an item was spelled, and the item fits the record.
-use Rattle.std.proofs.Common.{◌≡◌, ℕ, ◌≤◌, List, ◌∷◌, ◌++◌, length, drop, Bool, true, false, Option, None, Some, pos, refl, sym, ap, ◌∙◌, subst, arith, w32}
+use Rattle.std.proofs.Common.{◌≡◌, ℕ, ◌<◌, ◌≤◌, List, ◌∷◌, ◌++◌, length, drop, Bool, true, false, Option, None, Some, ℤ, pos, refl, sym, ap, ◌∙◌, subst, arith, w32}
 use Rattle.std.proofs.lemmas.Bool.Decides.{nat_tests}
 use Rattle.std.specs.Prelude.{slice_index, nat_lt, nat_le, ◌&&◌, ◌==◌, if◌then◌else◌, IfSome, FitsSigned}
 use Rattle.gui_wire.specs.Words.{word}
 use Rattle.gui_wire.proofs.WordLemmas.{AreBytes}
 use Rattle.desk_laws.specs.Rules.{within}
+use Rattle.desk_laws.specs.Items.{IsInRange}
 use Rattle.desk_laws.specs.declared.item.Item.{Item}
 use Rattle.desk_laws.specs.declared.item.Item.TheVariants.{Bytes, Closed, Store, Key, Move, Press, Close, Next, Restore, MoveTo, SizeTo, Snap, End, Lost}
 use Rattle.record_format.specs.Config.{number_at}
@@ -34,6 +35,36 @@ if_some : (b : Bool) (item : Item) (len : ℕ) (fact : Item × ℕ → Type 0) �
 if_some true item len fact holds = holds refl
 if_some false item len fact holds = tt
 
+-- the fields of each kind, where they are right, are in their ranges
+
+piece_fits : (guests pages guest size : ℕ) → (nat_lt guest guests && within 1 65536 size) ≡ true → IsInRange guests pages (Bytes guest) size
+piece_fits guests pages guest size right =
+    (grind (arith, nat_tests, right), record { some = grind (arith, nat_tests, right); most = grind (arith, nat_tests, right) })
+
+guest_fits : (guests guest : ℕ) → nat_lt guest guests ≡ true → guest < guests
+guest_fits guests guest right = grind (arith, nat_tests, right)
+
+store_fits : (guests pages guest delay page offset size : ℕ) → (nat_lt guest guests && is_change pages page offset size) ≡ true → IsInRange guests pages (Store guest delay page offset) size
+store_fits guests pages guest delay page offset size right = (
+  grind (arith, nat_tests, right),
+  record {
+    page_in = grind (arith, nat_tests, right);
+    offset_aligned = grind (arith, nat_tests, right);
+    len_aligned = grind (arith, nat_tests, right);
+    some = grind (arith, nat_tests, right);
+    within = grind (arith, nat_tests, right);
+  },
+)
+
+key_fits : (guests pages down code state : ℕ) → (nat_le down 1 && nat_le state 8191) ≡ true → IsInRange guests pages (Key (down == 1) code state) 0
+key_fits guests pages down code state right = (grind (arith, nat_tests, right), refl)
+
+move_fits : (guests pages : ℕ) (x y : ℤ) (state : ℕ) → nat_le state 8191 ≡ true → IsInRange guests pages (Move x y state) 0
+move_fits guests pages x y state right = (grind (arith, nat_tests, right), refl)
+
+press_fits : (guests pages down button state : ℕ) → (nat_le down 1 && (within 1 15 button && nat_le state 8191)) ≡ true → IsInRange guests pages (Press (down == 1) button state) 0
+press_fits guests pages down button state right = ((grind (arith, nat_tests, right), grind (arith, nat_tests, right)), (grind (arith, nat_tests, right), refl))
+
 piece_spelled : (guests pages : ℕ) (bytes : List ℕ) → AreBytes bytes → 6 ≤ length bytes → slice_index bytes 0 ≡ 2 → IfSome (piece_read guests bytes) (IsSpelledBy guests pages bytes)
 piece_spelled guests pages bytes h long is =
     let guest = slice_index bytes 1 in
@@ -41,7 +72,7 @@ piece_spelled guests pages bytes h long is =
     if_some (nat_lt guest guests && within 1 65536 size) (Bytes guest) size (IsSpelledBy guests pages bytes) (λ right. record {
       fits = record {
         widths = tt;
-        range = (grind (arith, nat_tests, right), record { some = grind (arith, nat_tests, right); most = grind (arith, nat_tests, right) });
+        range = piece_fits guests pages guest size right;
       };
       spelled = (
         drop 6 bytes,
@@ -54,7 +85,7 @@ closed_spelled : (guests pages : ℕ) (bytes : List ℕ) → 2 ≤ length bytes 
 closed_spelled guests pages bytes long is =
     let guest = slice_index bytes 1 in
     if_some (nat_lt guest guests) (Closed guest) 0 (IsSpelledBy guests pages bytes) (λ right. record {
-      fits = record { widths = tt; range = (grind (arith, nat_tests, right), refl) };
+      fits = record { widths = tt; range = (guest_fits guests guest right, refl) };
       spelled = (drop 2 bytes, sym (kind_on 3 bytes (omega arith) is ∙ ap (λ (l : List ℕ). 3 ∷ l) (byte_on 1 bytes (omega arith))));
     })
 
@@ -62,7 +93,7 @@ lost_spelled : (guests pages : ℕ) (bytes : List ℕ) → 2 ≤ length bytes �
 lost_spelled guests pages bytes long is =
     let guest = slice_index bytes 1 in
     if_some (nat_lt guest guests) (Lost guest) 0 (IsSpelledBy guests pages bytes) (λ right. record {
-      fits = record { widths = tt; range = (grind (arith, nat_tests, right), refl) };
+      fits = record { widths = tt; range = (guest_fits guests guest right, refl) };
       spelled = (drop 2 bytes, sym (kind_on 11 bytes (omega arith) is ∙ ap (λ (l : List ℕ). 11 ∷ l) (byte_on 1 bytes (omega arith))));
     })
 
@@ -76,16 +107,7 @@ store_spelled guests pages bytes h long is =
     if_some (nat_lt guest guests && is_change pages page offset size) (Store guest delay page offset) size (IsSpelledBy guests pages bytes) (λ right. record {
       fits = record {
         widths = half_small 2 bytes h;
-        range = (
-          grind (arith, nat_tests, right),
-          record {
-            page_in = grind (arith, nat_tests, right);
-            offset_aligned = grind (arith, nat_tests, right);
-            len_aligned = grind (arith, nat_tests, right);
-            some = grind (arith, nat_tests, right);
-            within = grind (arith, nat_tests, right);
-          },
-        );
+        range = store_fits guests pages guest delay page offset size right;
       };
       spelled = (
         drop 16 bytes,
@@ -103,7 +125,7 @@ key_spelled guests pages bytes h long is =
     let code = slice_index bytes 2 in
     let state = half_at 3 bytes in
     if_some (nat_le down 1 && nat_le state 8191) (Key (down == 1) code state) 0 (IsSpelledBy guests pages bytes) (λ right. record {
-      fits = record { widths = h 2; range = (grind (arith, nat_tests, right), refl) };
+      fits = record { widths = h 2; range = key_fits guests pages down code state right };
       spelled = (
         drop 5 bytes,
         sym (kind_on 5 bytes (omega arith) is ∙ ap (λ (l : List ℕ). 5 ∷ l) (flag_on 1 bytes (omega arith) (grind (arith, nat_tests, right))
@@ -118,7 +140,7 @@ move_spelled guests pages bytes h long is =
     let y = signed_at 5 bytes in
     let state = half_at 9 bytes in
     if_some (nat_le state 8191) (Move x y state) 0 (IsSpelledBy guests pages bytes) (λ right. record {
-      fits = record { widths = (signed_fits 1 bytes h, signed_fits 5 bytes h); range = (grind (arith, nat_tests, right), refl) };
+      fits = record { widths = (signed_fits 1 bytes h, signed_fits 5 bytes h); range = move_fits guests pages x y state right };
       spelled = (
         drop 11 bytes,
         sym (kind_on 6 bytes (omega arith) is ∙ ap (λ (l : List ℕ). 6 ∷ l) (signed_on 1 bytes h (omega arith)
@@ -133,7 +155,7 @@ press_spelled guests pages bytes h long is =
     let button = slice_index bytes 2 in
     let state = half_at 3 bytes in
     if_some (nat_le down 1 && (within 1 15 button && nat_le state 8191)) (Press (down == 1) button state) 0 (IsSpelledBy guests pages bytes) (λ right. record {
-      fits = record { widths = tt; range = ((grind (arith, nat_tests, right), grind (arith, nat_tests, right)), (grind (arith, nat_tests, right), refl)) };
+      fits = record { widths = tt; range = press_fits guests pages down button state right };
       spelled = (
         drop 5 bytes,
         sym (kind_on 7 bytes (omega arith) is ∙ ap (λ (l : List ℕ). 7 ∷ l) (flag_on 1 bytes (omega arith) (grind (arith, nat_tests, right))
@@ -213,4 +235,42 @@ item_spelled guests pages bytes h has =
     (λ e9. either (kind == 10) (Some (End, 0)) _ fact
     (λ e. record { fits = record { widths = tt; range = refl }; spelled = (drop 1 bytes, sym (kind_on 10 bytes has.some (same_number kind 10 e))) })
     (λ e10. either (kind == 11) (guest_read Lost guests bytes) None fact (λ e. lost_spelled guests pages bytes (room 11 bytes has e) (same_number kind 11 e))
+    (λ e11. tt))))))))))
+
+-- what is read is in its ranges, whatever the bytes are
+abbrev pub RangesHold : ℕ → ℕ → Item × ℕ → Type 0
+RangesHold guests pages found = IsInRange guests pages found.0 found.1
+
+command_ranged : (guests pages : ℕ) (bytes : List ℕ) → IfSome (command_read bytes) (RangesHold guests pages)
+command_ranged guests pages bytes =
+    let code = slice_index bytes 1 in
+    let fact = RangesHold guests pages in
+    let plain = number_at 2 bytes == 0 && number_at 6 bytes == 0 in
+    either (code == 1) (plain_read Close bytes) _ fact (λ e. if_some plain Close 0 fact (λ right. refl))
+    (λ e1. either (code == 2) (plain_read Next bytes) _ fact (λ e. if_some plain Next 0 fact (λ right. refl))
+    (λ e2. either (code == 3) (plain_read Restore bytes) _ fact (λ e. if_some plain Restore 0 fact (λ right. refl))
+    (λ e3. either (code == 4) (Some (MoveTo (signed_at 2 bytes) (signed_at 6 bytes), 0)) _ fact (λ e. refl)
+    (λ e4. either (code == 5) (Some (SizeTo (signed_at 2 bytes) (signed_at 6 bytes), 0)) None fact (λ e. refl)
+    (λ e5. tt)))))
+
+pub item_ranged : (guests pages : ℕ) (bytes : List ℕ) → IfSome (item_read guests pages bytes) (RangesHold guests pages)
+item_ranged guests pages bytes =
+    let kind = slice_index bytes 0 in
+    let guest = slice_index bytes 1 in
+    let fact = RangesHold guests pages in
+    either (kind == 2) (piece_read guests bytes) _ fact (λ e. if_some (nat_lt guest guests && within 1 65536 (number_at 2 bytes)) (Bytes guest) (number_at 2 bytes) fact (piece_fits guests pages guest (number_at 2 bytes)))
+    (λ e2. either (kind == 3) (guest_read Closed guests bytes) _ fact (λ e. if_some (nat_lt guest guests) (Closed guest) 0 fact (λ right. (guest_fits guests guest right, refl)))
+    (λ e3. either (kind == 4) (store_read guests pages bytes) _ fact (λ e. if_some (nat_lt guest guests && is_change pages (number_at 4 bytes) (number_at 8 bytes) (number_at 12 bytes))
+    (Store guest (half_at 2 bytes) (number_at 4 bytes) (number_at 8 bytes)) (number_at 12 bytes) fact
+    (store_fits guests pages guest (half_at 2 bytes) (number_at 4 bytes) (number_at 8 bytes) (number_at 12 bytes)))
+    (λ e4. either (kind == 5) (key_read bytes) _ fact (λ e. if_some (nat_le guest 1 && nat_le (half_at 3 bytes) 8191) (Key (guest == 1) (slice_index bytes 2) (half_at 3 bytes)) 0 fact
+    (key_fits guests pages guest (slice_index bytes 2) (half_at 3 bytes)))
+    (λ e5. either (kind == 6) (move_read bytes) _ fact (λ e. if_some (nat_le (half_at 9 bytes) 8191) (Move (signed_at 1 bytes) (signed_at 5 bytes) (half_at 9 bytes)) 0 fact
+    (move_fits guests pages (signed_at 1 bytes) (signed_at 5 bytes) (half_at 9 bytes)))
+    (λ e6. either (kind == 7) (press_read bytes) _ fact (λ e. if_some (nat_le guest 1 && (within 1 15 (slice_index bytes 2) && nat_le (half_at 3 bytes) 8191))
+    (Press (guest == 1) (slice_index bytes 2) (half_at 3 bytes)) 0 fact (press_fits guests pages guest (slice_index bytes 2) (half_at 3 bytes)))
+    (λ e7. either (kind == 8) (command_read bytes) _ fact (λ e. command_ranged guests pages bytes)
+    (λ e8. either (kind == 9) (Some (Snap, 0)) _ fact (λ e. refl)
+    (λ e9. either (kind == 10) (Some (End, 0)) _ fact (λ e. refl)
+    (λ e10. either (kind == 11) (guest_read Lost guests bytes) None fact (λ e. if_some (nat_lt guest guests) (Lost guest) 0 fact (λ right. (guest_fits guests guest right, refl)))
     (λ e11. tt))))))))))

@@ -1,12 +1,13 @@
 -- How an item is spelled in a record: its kind and its fixed fields; the bytes that come with it stand
 -- behind them. Numbers have their lowest byte first. The format is this project's own.
-use Rattle.std.specs.Prelude.{ℕ, ◌<◌, ◌^◌, List, [], ◌∷◌, ◌++◌, Bool, true, false, ℤ, pos, FitsSigned}
+use Rattle.std.specs.Prelude.{ℕ, ◌<◌, ◌^◌, List, [], ◌∷◌, ◌++◌, length, Bool, true, false, ℤ, pos, FitsSigned}
+use Rattle.std.specs.List.{flat_map}
 use Rattle.std.specs.Int.{w32}
 use Rattle.byteorder.specs.Endian.{little_bytes}
 use Rattle.gui_wire.specs.Words.{word, unsigned}
 use Rattle.desk_laws.specs.declared.item.Item.{Item}
 use Rattle.desk_laws.specs.declared.item.Item.TheVariants.{Bytes, Closed, Store, Key, Move, Press, Close, Next, Restore, MoveTo, SizeTo, Snap, End, Lost, Idle}
-use Rattle.desk_laws.specs.Items.{IsInRange}
+use Rattle.desk_laws.specs.Items.{FedItem, IsInRange}
 
 -- a number of 16 bits
 abbrev pub half : ℕ → List ℕ
@@ -42,6 +43,14 @@ item_spelling Snap len = 9 ∷ []
 item_spelling End len = 10 ∷ []
 item_spelling (Lost guest) len = 11 ∷ guest ∷ []
 item_spelling Idle len = []
+
+-- an item with its piece behind it
+abbrev pub fed_spelling : FedItem → List ℕ
+fed_spelling given = item_spelling given.item (length given.piece) ++ given.piece
+
+-- items, one after the other
+abbrev pub items_spelling : List FedItem → List ℕ
+items_spelling items = flat_map fed_spelling items
 
 -- the item's numbers have as many bits as their fields, and it isn't Idle
 abbrev pub HasWidths : Item → Type 0

@@ -6,3 +6,4 @@ pub mod Parts
 pub mod ItemSpellings
 pub mod ItemFields
 pub mod PostFields
+pub mod RecordLaws

@@ -1,6 +1,6 @@
 -- What a record says: a setup, and the items behind it up to End or a fault. The format is this
 -- project's own.
-use Rattle.std.specs.Prelude.{ℕ, zero, suc, ◌+◌, List, [], ◌∷◌, ◌++◌, length, take, drop, slice_index, ◌==◌, nat_lt, nat_le, ◌&&◌, if◌then◌else◌, Bool, true, false, Result, Ok, Err}
+use Rattle.std.specs.Prelude.{ℕ, zero, suc, ◌+◌, List, [], ◌∷◌, ◌++◌, length, take, drop, nat_lt, not, if◌then◌else◌, Bool, true, false, Option, None, Some, Result, Ok, Err}
 use Rattle.io_ports.specs.declared.feed.RecordFault.{RecordFault}
 use Rattle.io_ports.specs.declared.feed.RecordKind.{RecordKind}
 use Rattle.io_ports.specs.declared.feed.RecordKind.TheVariants as kinds
@@ -9,8 +9,9 @@ use Rattle.desk_laws.specs.declared.item.Item.{Item}
 use Rattle.desk_laws.specs.declared.item.Item.TheVariants as items
 use Rattle.desk_laws.specs.Frames.{counted}
 use Rattle.desk_laws.specs.Items.{FedItem}
-use Rattle.record_format.specs.Config.{Wrong, fault, number_at, config_of, config_len}
-use Rattle.record_format.specs.ItemFields.{half_at, is_change}
+use Rattle.desk_laws.specs.Stage.{takes_item}
+use Rattle.record_format.specs.Config.{Wrong, fault, config_of, config_len}
+use Rattle.record_format.specs.ItemFields.{fields_len, item_read}
 
 -- End, or the fault that stands in an item's place
 pub data Ending : Type 0 where
@@ -26,54 +27,26 @@ pub record Items : Type 0 where
 abbrev pub alone : Item → FedItem
 alone item = record { item = item; piece = [] }
 
--- a piece of a guest's bytes, from behind the kind byte: the guest, the length of four bytes, and as many bytes
-abbrev pub bytes_at : ℕ → List ℕ → Result (FedItem × ℕ) RecordKind
-bytes_at guests rest =
-    let guest = slice_index rest 0 in
-    let size = number_at 1 (take 5 rest) in
-    if nat_lt (length rest) 5 then Err kinds.Short
-    else if nat_lt guest guests && (nat_le 1 size && nat_le size 65536)
-    then (if nat_lt (length (drop 5 rest)) size then Err kinds.Short
-    else Ok (record { item = items.Bytes guest; piece = take size (drop 5 rest) }, 6 + size))
-    else Err kinds.Range
+-- what a kind byte and its fields say, so many bytes together, with the piece that the bytes behind them begin with.
+-- Where a field is wrong it doesn't matter what stands behind.
+abbrev pub with_piece : ℕ → List ℕ → Option (Item × ℕ) → Result (FedItem × ℕ) RecordKind
+with_piece before behind None = Err kinds.Range
+with_piece before behind (Some found) =
+    if not (takes_item found.0) then Err kinds.Kind
+    else if nat_lt (length behind) found.1 then Err kinds.Short
+    else Ok (record { item = found.0; piece = take found.1 behind }, before + found.1)
 
--- an item of whose spelling so many bytes come before the piece, and the piece with as many bytes as are
--- due, unless fields are wrong: then it doesn't matter what stands behind them
-abbrev pub with_piece : Bool → Item → ℕ → ℕ → List ℕ → Result (FedItem × ℕ) RecordKind
-with_piece right item before size rest =
-    if right
-    then (if nat_lt (length rest) size then Err kinds.Short
-    else Ok (record { item = item; piece = take size rest }, before + size))
-    else Err kinds.Range
-
--- a change of a guest's frames, from behind the kind byte: the guest, the delay of two bytes, page, offset
--- and length of four bytes each, and as many bytes
-abbrev pub store_at : ℕ → ℕ → List ℕ → Result (FedItem × ℕ) RecordKind
-store_at guests pages rest =
-    let fixed = take 15 rest in
-    let guest = slice_index rest 0 in
-    let page = number_at 3 fixed in
-    let offset = number_at 7 fixed in
-    let size = number_at 11 fixed in
-    if nat_lt (length rest) 15 then Err kinds.Short
-    else with_piece (nat_lt guest guests && is_change pages page offset size) (items.Store guest (half_at 1 fixed) page offset) 16 size (drop 15 rest)
-
--- an item of a guest that comes without bytes, from behind the kind byte: the guest
-abbrev pub guest_at : (ℕ → Item) → ℕ → List ℕ → Result (FedItem × ℕ) RecordKind
-guest_at made guests [] = Err kinds.Short
-guest_at made guests (guest ∷ rest) = if nat_lt guest guests then Ok (alone (made guest), 2) else Err kinds.Range
+-- an item whose kind byte has so many bytes of fields behind it
+abbrev pub with_fields : ℕ → ℕ → List ℕ → Option ℕ → Result (FedItem × ℕ) RecordKind
+with_fields guests pages bytes None = Err kinds.Kind
+with_fields guests pages bytes (Some n) =
+    if nat_lt (length bytes) (1 + n) then Err kinds.Short
+    else with_piece (1 + n) (drop (1 + n) bytes) (item_read guests pages (take (1 + n) bytes))
 
 -- the item at the front, and how many bytes it takes
 abbrev pub item_at : ℕ → ℕ → List ℕ → Result (FedItem × ℕ) RecordKind
 item_at guests pages [] = Err kinds.Short
-item_at guests pages (kind ∷ rest) =
-    if kind == 2 then bytes_at guests rest
-    else if kind == 3 then guest_at items.Closed guests rest
-    else if kind == 4 then store_at guests pages rest
-    else if kind == 9 then Ok (alone items.Snap, 1)
-    else if kind == 10 then Ok (alone items.End, 1)
-    else if kind == 11 then guest_at items.Lost guests rest
-    else Err kinds.Kind
+item_at guests pages (kind ∷ rest) = with_fields guests pages (kind ∷ rest) (fields_len kind)
 
 -- these items, and then the others
 abbrev pub with_front : List FedItem → Items → Items

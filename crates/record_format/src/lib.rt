@@ -5,13 +5,17 @@
 mod config;
 mod config_out;
 mod item;
+mod item_out;
+mod law;
 mod part;
 mod post;
 #[cfg(test)]
 mod tests;
 
-pub use config::{ConfigRead, number_at, read_config};
+pub use config::{ConfigRead, read_config};
 pub use config_out::{config_len, put_config};
-pub use item::{fixed_len, half_at, is_change, item_of, spell_item};
+pub use item::{fixed_len, item_of, item_within};
+pub use item_out::spell_item;
+pub use law::law_of_records;
 pub use part::{PartRead, fill_whole};
 pub use post::{Post, post_of};

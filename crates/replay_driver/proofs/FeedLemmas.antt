@@ -1,5 +1,5 @@
 -- What a call of a feed reads, and what it leaves to come.
-use Rattle.std.proofs.Common.{◌≡◌, ℕ, ◌+◌, ◌≤◌, List, [], ◌∷◌, ◌++◌, length, take, Option, None, Some, Result, Ok, Err, refl, sym, ◌∙◌, ap, subst, arith, length-take, Bool, true, false}
+use Rattle.std.proofs.Common.{◌≡◌, ℕ, ◌+◌, List, [], ◌∷◌, ◌++◌, length, take, Option, None, Some, Result, Ok, Err, refl, sym, ◌∙◌, ap, subst, Bool, true, false}
 use Rattle.std.specs.Prelude.{if◌then◌else◌, IfOk}
 use Rattle.io_ports.specs.declared.feed.Next.{Next}
 use Rattle.io_ports.specs.declared.feed.RecordFault.{RecordFault}
@@ -16,43 +16,39 @@ use Rattle.replay_driver.specs.declared.replay_feed.FeedState.{FeedState}
 use Rattle.replay_driver.specs.declared.replay_feed.FeedState.TheVariants as states
 use Rattle.record_format.specs.Config.{fault}
 use Rattle.record_format.specs.RecordGrammar.{Items, Faulty, Ends, item_at, is_end, nothing_but, item_and, with_front, items_from}
-use Rattle.replay_driver.specs.ItemParts.{item_size, Finds}
+use Rattle.replay_driver.specs.ItemParts.{Spell, Finds, size_in}
 use Rattle.replay_driver.specs.FeedReadings.{ReadsItem, FeedReads, state_after, coming_of, coming_in}
 use Rattle.record_format.proofs.ReaderLemmas.{back_is}
-use Rattle.replay_driver.proofs.ItemLemmas.{from_fault, from_item}
+use Rattle.record_format.proofs.RecordLemmas.{from_fault, from_item}
 
 -- an item that is spelled by these bytes, and the items behind them
-item_goes : (guests pages at after size : ℕ) (given : FedItem) (taken tail : List ℕ) → size ≡ length taken → after ≡ counted (at + size) → item_at guests pages (taken ++ tail) ≡ Ok (given, size)
+item_goes : (guests pages at after : ℕ) (given : FedItem) (taken tail : List ℕ) → after ≡ counted (at + length taken) → item_at guests pages (taken ++ tail) ≡ Ok (given, length taken)
     → items_from guests pages at (taken ++ tail) ≡ item_and given (items_from guests pages after tail)
-item_goes guests pages at after size given taken tail is place found =
-    from_item guests pages at size (taken ++ tail) given found ∙ (λ i. item_and given (items_from guests pages (sym place i) (back_is size taken tail (sym is) i)))
+item_goes guests pages at after given taken tail place found =
+    from_item guests pages at (length taken) (taken ++ tail) given found ∙ (λ i. item_and given (items_from guests pages (sym place i) (back_is (length taken) taken tail refl i)))
 
 fault_goes : (guests pages at : ℕ) (f : RecordFault) (bytes : List ℕ) → f.offset ≡ at → item_at guests pages bytes ≡ Err f.kind → items_from guests pages at bytes ≡ nothing_but (Faulty f)
 fault_goes guests pages at f bytes is found = from_fault guests pages at bytes f.kind found ∙ (λ i. nothing_but (Faulty (fault (sym is i) f.kind)))
 
 -- the offset behind an item
-place_is : (at after : ℕ) (next : Next) (room : List ℕ) (size : ℕ) → after ≡ counted (at + item_size next.item next.len) → next.len ≤ length room
-    → item_size next.item (length (take next.len room)) ≡ size → after ≡ counted (at + size)
-place_is at after next room size place fits takes =
-    let long : length (take next.len room) ≡ next.len = omega (arith, length-take next.len room) in
-    place ∙ ap (λ (n : ℕ). counted (at + item_size next.item n)) (sym long) ∙ ap (λ (n : ℕ). counted (at + n)) takes
+place_is : (guests pages at after : ℕ) (next : Next) (room taken : List ℕ) → after ≡ counted (at + size_in next room)
+    → Spell guests pages (record { item = next.item; piece = take next.len room }) taken → after ≡ counted (at + length taken)
+place_is guests pages at after next room taken place spell = place ∙ ap (λ (l : List ℕ). counted (at + length l)) (sym spell.spelled)
 
 -- what was found is the item of the record, or its fault
 pub item_reads : (guests pages at after : ℕ) (r : Result Next FeedFault) (room bytes : List ℕ) (left : Option (List ℕ))
-    → IfOk r (λ n. after ≡ counted (at + item_size n.item n.len)) → IfOk r (λ n. n.len ≤ length room)
-    → Finds (item_at guests pages) 0 at (answer_of r room) bytes left → ReadsItem guests pages at after (answer_of r room) bytes left
-item_reads guests pages at after (Ok next) room bytes left place fits finds =
+    → IfOk r (λ n. after ≡ counted (at + size_in n room)) → Finds guests pages at (answer_of r room) bytes left → ReadsItem guests pages at after (answer_of r room) bytes left
+item_reads guests pages at after (Ok next) room bytes left place finds =
     let given : FedItem = record { item = next.item; piece = take next.len room } in
-    let here : after ≡ counted (at + (0 + length finds.taken)) = place_is at after next room (0 + length finds.taken) place fits finds.holds.0 in
     record {
       taken = finds.taken;
       rest = finds.rest;
       split = finds.split;
       is_left = finds.is_left;
-      holds = λ tail. item_goes guests pages at after (0 + length finds.taken) given finds.taken tail (omega arith) here (finds.holds.1 tail);
+      holds = (finds.holds.spelled, λ tail. item_goes guests pages at after given finds.taken tail (place_is guests pages at after next room finds.taken place finds.holds) (finds.holds.found tail));
     }
-item_reads guests pages at after (Err (feeds.Bad f)) room bytes left place fits finds = fault_goes guests pages at f bytes finds.1 finds.0
-item_reads guests pages at after (Err feeds.Failed) room bytes left place fits finds = record {
+item_reads guests pages at after (Err (feeds.Bad f)) room bytes left place finds = fault_goes guests pages at f bytes finds.1 finds.0
+item_reads guests pages at after (Err feeds.Failed) room bytes left place finds = record {
   taken = finds.taken;
   rest = finds.rest;
   split = finds.split;
@@ -86,43 +82,38 @@ item_comes true given guests pages after rest left is end = (end refl, ap (comin
 item_comes false given guests pages after rest left is end = (refl, ap (coming_in states.Going guests pages after) is)
 
 comes : (guests pages at after : ℕ) (r : Result Next FeedFault) (room bytes : List ℕ) (left : Option (List ℕ))
-    → IfOk r (λ n. after ≡ counted (at + item_size n.item n.len)) → IfOk r (λ n. n.len ≤ length room) → IfOk r (λ n. FitsItem guests pages n.item n.len)
-    → Finds (item_at guests pages) 0 at (answer_of r room) bytes left
+    → IfOk r (λ n. after ≡ counted (at + size_in n room)) → IfOk r (λ n. FitsItem guests pages n.item n.len) → Finds guests pages at (answer_of r room) bytes left
     → ComesNext (coming_of (items_from guests pages at bytes)) (answer_of r room) (coming_in (state_after states.Going (answer_of r room)) guests pages after left)
-comes guests pages at after (Ok next) room bytes left place fits range finds =
+comes guests pages at after (Ok next) room bytes left place range finds =
     let given : FedItem = record { item = next.item; piece = take next.len room } in
-    let here : after ≡ counted (at + (0 + length finds.taken)) = place_is at after next room (0 + length finds.taken) place fits finds.holds.0 in
+    let here = place_is guests pages at after next room finds.taken place finds.holds in
     let all : items_from guests pages at bytes ≡ item_and given (items_from guests pages after finds.rest) =
-    ap (items_from guests pages at) finds.split ∙ item_goes guests pages at after (0 + length finds.taken) given finds.taken finds.rest (omega arith) here (finds.holds.1 finds.rest) in
+    ap (items_from guests pages at) finds.split ∙ item_goes guests pages at after given finds.taken finds.rest here (finds.holds.found finds.rest) in
     subst (λ (found : Items). ComesNext (coming_of found) (Ok given) (coming_in (state_after states.Going (Ok given)) guests pages after left)) (sym all)
     (item_comes (is_end next.item) given guests pages after finds.rest left finds.is_left (end_alone guests pages next room range))
-comes guests pages at after (Err (feeds.Bad f)) room bytes left place fits range finds =
+comes guests pages at after (Err (feeds.Bad f)) room bytes left place range finds =
     subst (λ (found : Items). ComesNext (coming_of found) (Err (feeds.Bad f)) (coming_in (states.Bad f) guests pages after left)) (sym (fault_goes guests pages at f bytes finds.1 finds.0))
     (refl, ap (coming_in (states.Bad f) guests pages after) finds.2.1)
-comes guests pages at after (Err feeds.Failed) room bytes left place fits range finds = tt
+comes guests pages at after (Err feeds.Failed) room bytes left place range finds = tt
 
 none_comes : (guests pages at after : ℕ) (r : Result Next FeedFault) (room : List ℕ) (before left : Option (List ℕ)) (coming : Coming)
-    → IfOk r (λ n. after ≡ counted (at + item_size n.item n.len)) → IfOk r (λ n. n.len ≤ length room) → IfOk r (λ n. FitsItem guests pages n.item n.len)
-    → Told before (λ bytes. Finds (item_at guests pages) 0 at (answer_of r room) bytes left) → coming_in states.Going guests pages at before ≡ Some coming
+    → IfOk r (λ n. after ≡ counted (at + size_in n room)) → IfOk r (λ n. FitsItem guests pages n.item n.len)
+    → Told before (λ bytes. Finds guests pages at (answer_of r room) bytes left) → coming_in states.Going guests pages at before ≡ Some coming
     → ComesNext coming (answer_of r room) (coming_in (state_after states.Going (answer_of r room)) guests pages after left)
-none_comes guests pages at after r room None left coming place fits range finds is = absurd (cc)
-none_comes guests pages at after r room (Some bytes) left coming place fits range finds is =
+none_comes guests pages at after r room None left coming place range finds is = absurd (cc)
+none_comes guests pages at after r room (Some bytes) left coming place range finds is =
     let same : coming_of (items_from guests pages at bytes) ≡ coming = cc in
     subst (λ (c : Coming). ComesNext c (answer_of r room) (coming_in (state_after states.Going (answer_of r room)) guests pages after left)) same
-    (comes guests pages at after r room bytes left place fits range (finds bytes refl))
+    (comes guests pages at after r room bytes left place range (finds bytes refl))
 
 -- what a feed that goes on leaves to come
 pub going_comes : (state behind : FeedState) (guests guests_behind pages pages_behind at after : ℕ) (r : Result Next FeedFault) (room : List ℕ) (before left : Option (List ℕ)) (coming : Coming)
     → state ≡ states.Going → behind ≡ state_after states.Going (answer_of r room) → guests_behind ≡ guests → pages_behind ≡ pages
-    → IfOk r (λ n. after ≡ counted (at + item_size n.item n.len)) → IfOk r (λ n. n.len ≤ length room) → IfOk r (λ n. FitsItem guests pages n.item n.len)
-    → Told before (λ bytes. Finds (item_at guests pages) 0 at (answer_of r room) bytes left) → coming_in state guests pages at before ≡ Some coming
+    → IfOk r (λ n. after ≡ counted (at + size_in n room)) → IfOk r (λ n. FitsItem guests pages n.item n.len)
+    → Told before (λ bytes. Finds guests pages at (answer_of r room) bytes left) → coming_in state guests pages at before ≡ Some coming
     → ComesNext coming (answer_of r room) (coming_in behind guests_behind pages_behind after left)
-going_comes state behind guests guests_behind pages pages_behind at after r room before left coming going turns same same_pages place fits range finds is =
+going_comes state behind guests guests_behind pages pages_behind at after r room before left coming going turns same same_pages place range finds is =
     let now : coming_in states.Going guests pages at before ≡ Some coming = ap (λ (s : FeedState). coming_in s guests pages at before) (sym going) ∙ is in
     let next : coming_in (state_after states.Going (answer_of r room)) guests pages after left ≡ coming_in behind guests_behind pages_behind after left =
     λ i. coming_in (sym turns i) (sym same i) (sym same_pages i) after left in
-    subst (λ (c : Option Coming). ComesNext coming (answer_of r room) c) next (none_comes guests pages at after r room before left coming place fits range finds now)
-
-pub fits_room : (r : Result Next FeedFault) (room : List ℕ) → 65536 ≤ length room → IfOk r (λ n. n.len ≤ 65536) → IfOk r (λ n. n.len ≤ length room)
-fits_room (Ok next) room enough small = omega arith
-fits_room (Err f) room enough small = tt
+    subst (λ (c : Option Coming). ComesNext coming (answer_of r room) c) next (none_comes guests pages at after r room before left coming place range finds now)

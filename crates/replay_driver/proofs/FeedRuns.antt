@@ -14,9 +14,12 @@ use Rattle.replay_driver.specs.declared.replay_feed.FeedState.TheVariants as sta
 use Rattle.replay_driver.specs.FeedView.{FeedView}
 use Rattle.record_format.specs.Config.{fault}
 use Rattle.record_format.specs.Readings.{Took}
-use Rattle.record_format.specs.RecordGrammar.{Items, Faulty, Ends, alone, is_end, nothing_but, item_and, with_front, items_from}
+use Rattle.record_format.specs.RecordGrammar.{Items, Faulty, Ends, alone, is_end, nothing_but, with_front, items_from}
 use Rattle.replay_driver.specs.FeedReadings.{ReadsItem, FeedReads, state_after}
 use Rattle.replay_driver.specs.FeedRuns.{FeedGives, Fed, NoEnd}
+use Rattle.std.proofs.lemmas.List.Concat.{flat_map-append}
+use Rattle.record_format.specs.ItemSpellings.{fed_spelling, items_spelling}
+use Rattle.record_format.proofs.RecordLemmas.{item_more}
 use Rattle.record_format.proofs.ReaderLemmas.{took_none, took_on}
 
 -- the feed stays over the same source
@@ -52,12 +55,17 @@ fed_parts gives a b [] back last fed = (a, refl, fed)
 fed_parts gives a b (g ∷ front) back last fed =
     let others = fed_parts gives fed.0 b front back last fed.2 in (others.0, (fed.0, fed.1, others.1), others.2)
 
--- What a feed that goes on has read: the items that it gave stand first, whatever follows.
+-- these bytes are the spelling of the items, and are read as these, whatever follows
+abbrev pub AreRead : {S : Type 0} → FeedView S → FeedView S → List FedItem → List ℕ → Type 0
+AreRead a b given taken =
+    (taken ≡ items_spelling given) × ((tail : List ℕ) → items_from a.guests a.pages a.at (taken ++ tail) ≡ with_front given (items_from a.guests a.pages b.at tail))
+
+-- What a feed that goes on has read: the items that it gave are spelled by what it took, and stand first, whatever follows.
 pub record Gone {S : Type 0} (left : S → Option (List ℕ)) (a b : FeedView S) (given : List FedItem) (bytes : List ℕ) : Type 0 where
   pub going : b.state ≡ states.Going
   pub guests : b.guests ≡ a.guests
   pub pages : b.pages ≡ a.pages
-  pub took : Took bytes (left b.source) (λ taken. (tail : List ℕ) → items_from a.guests a.pages a.at (taken ++ tail) ≡ with_front given (items_from a.guests a.pages b.at tail))
+  pub took : Took bytes (left b.source) (AreRead a b given)
 
 no_front : (found : Items) → found ≡ with_front [] found
 no_front found = refl
@@ -67,15 +75,12 @@ gone_none left a bytes going told = record {
   going = going;
   guests = refl;
   pages = refl;
-  took = took_none bytes (left a.source) (λ taken. (tail : List ℕ) → items_from a.guests a.pages a.at (taken ++ tail) ≡ with_front [] (items_from a.guests a.pages a.at tail)) told (λ tail. refl);
+  took = took_none bytes (left a.source) (AreRead a a []) told (refl, λ tail. refl);
 }
 
 reads_one : (state : FeedState) (guests pages at after : ℕ) (answer : Answer) (bytes : List ℕ) (left : Option (List ℕ)) → state ≡ states.Going
     → FeedReads state guests pages at after answer bytes left → ReadsItem guests pages at after answer bytes left
 reads_one state guests pages at after answer bytes left going reads = subst (λ (s : FeedState). FeedReads s guests pages at after answer bytes left) going reads
-
-item_more : (g : FedItem) (rest : Items) → is_end g.item ≡ false → item_and g rest ≡ with_front (g ∷ []) rest
-item_more g rest more = ap (λ (b : Bool). if b then nothing_but Ends else with_front (g ∷ []) rest) more
 
 gone_more : {S : Type 0} (left : S → Option (List ℕ)) (faults : S → ℕ) (keeps : S → S → Type 0) (a m b : FeedView S) (g : FedItem) (given : List FedItem) (bytes : List ℕ)
     → a.state ≡ states.Going → FeedGives left faults keeps a (Ok g) m → (first : ReadsItem a.guests a.pages a.at m.at (Ok g) bytes (left m.source)) → is_end g.item ≡ false
@@ -84,12 +89,15 @@ gone_more left faults keeps a m b g given bytes going gives first more others = 
   going = others.going;
   guests = others.guests ∙ gives.same_guests;
   pages = others.pages ∙ gives.same_pages;
-  took = took_on bytes (left m.source) (left b.source) _ _ (λ taken. (tail : List ℕ) → items_from a.guests a.pages a.at (taken ++ tail) ≡ with_front (g ∷ given) (items_from a.guests a.pages b.at tail)) first others.took
-      (λ xs ys one two tail.
-      ap (items_from a.guests a.pages a.at) (append_assoc xs ys tail) ∙ one (ys ++ tail) ∙ item_more g _ more
-      ∙ (λ i. with_front (g ∷ []) (items_from (sym gives.same_guests i) (sym gives.same_pages i) m.at (ys ++ tail)))
-      ∙ ap (with_front (g ∷ [])) (two tail)
-      ∙ (λ i. with_front (g ∷ given) (items_from (gives.same_guests i) (gives.same_pages i) b.at tail)));
+  took = took_on bytes (left m.source) (left b.source) _ _ (AreRead a b (g ∷ given)) first others.took
+      (λ xs ys one two. (
+        λ i. one.0 i ++ two.0 i,
+        λ tail.
+            ap (items_from a.guests a.pages a.at) (append_assoc xs ys tail) ∙ one.1 (ys ++ tail) ∙ item_more g _ more
+            ∙ (λ i. with_front (g ∷ []) (items_from (sym gives.same_guests i) (sym gives.same_pages i) m.at (ys ++ tail)))
+            ∙ ap (with_front (g ∷ [])) (two.1 tail)
+            ∙ (λ i. with_front (g ∷ given) (items_from (gives.same_guests i) (gives.same_pages i) b.at tail)),
+      ));
 }
 
 still_going : (state after : FeedState) (g : FedItem) → state ≡ states.Going → after ≡ state_after state (Ok g) → is_end g.item ≡ false → after ≡ states.Going
@@ -120,10 +128,15 @@ ends_so : (guests pages at at_behind : ℕ) (given : List FedItem) (ending : _) 
 ends_so guests pages at at_behind given ending bytes xs ys behind pages_behind same same_pages one two =
     one ys ∙ (λ i. with_front given (items_from (sym same i) (sym same_pages i) at_behind ys)) ∙ ap (with_front given) two ∙ (λ i. record { each = append-nil given i; ending = ending })
 
+-- these bytes are the spelling of the items and End, and are read as these, whatever follows
+abbrev pub AreAll : {S : Type 0} → FeedView S → List FedItem → List ℕ → Type 0
+AreAll a front taken =
+    (taken ≡ items_spelling (front ++ alone items.End ∷ [])) × ((tail : List ℕ) → items_from a.guests a.pages a.at (taken ++ tail) ≡ record { each = front; ending = Ends })
+
 -- these items, and then End
 pub fed_end : {S : Type 0} (left : S → Option (List ℕ)) (faults : S → ℕ) (keeps : S → S → Type 0) (a b : FeedView S) (front : List FedItem) (bytes : List ℕ)
     → a.state ≡ states.Going → left a.source ≡ Some bytes → NoEnd front → Fed (FeedGives left faults keeps) a (front ++ alone items.End ∷ []) None b
-    → Took bytes (left b.source) (λ taken. (tail : List ℕ) → items_from a.guests a.pages a.at (taken ++ tail) ≡ record { each = front; ending = Ends })
+    → Took bytes (left b.source) (AreAll a front)
 fed_end left faults keeps a b front bytes going told none fed =
     let parts = fed_parts (FeedGives left faults keeps) a b front (alone items.End ∷ []) None fed in
     let m = parts.0 in
@@ -131,10 +144,13 @@ fed_end left faults keeps a b front bytes going told none fed =
     let after = parts.2.0 in
     let last : ReadsItem m.guests m.pages m.at after.at (Ok (alone items.End)) gone.took.rest (left after.source) =
     reads_one m.state m.guests m.pages m.at after.at (Ok (alone items.End)) gone.took.rest (left after.source) gone.going (parts.2.1.reads gone.took.rest gone.took.is_left) in
-    let took : Took bytes (left after.source) (λ taken. (tail : List ℕ) → items_from a.guests a.pages a.at (taken ++ tail) ≡ record { each = front; ending = Ends }) =
+    let took : Took bytes (left after.source) (AreAll a front) =
     took_on bytes (left m.source) (left after.source) _ _ _ gone.took last
-    (λ xs ys one two tail. ap (items_from a.guests a.pages a.at) (append_assoc xs ys tail) ∙ ends_so a.guests a.pages a.at m.at front Ends bytes xs (ys ++ tail) m.guests m.pages gone.guests gone.pages one (two tail)) in
-    subst (λ (f : FeedView _). Took bytes (left f.source) (λ taken. (tail : List ℕ) → items_from a.guests a.pages a.at (taken ++ tail) ≡ record { each = front; ending = Ends })) parts.2.2 took
+    (λ xs ys one two. (
+      (λ i. one.0 i ++ two.0 i) ∙ sym (flat_map-append fed_spelling front (alone items.End ∷ [])),
+      λ tail. ap (items_from a.guests a.pages a.at) (append_assoc xs ys tail) ∙ ends_so a.guests a.pages a.at m.at front Ends bytes xs (ys ++ tail) m.guests m.pages gone.guests gone.pages one.1 (two.1 tail),
+    )) in
+    subst (λ (f : FeedView _). Took bytes (left f.source) (AreAll a front)) parts.2.2 took
 
 -- these items, and then a fault of the record
 pub fed_fault : {S : Type 0} (left : S → Option (List ℕ)) (faults : S → ℕ) (keeps : S → S → Type 0) (a b : FeedView S) (given : List FedItem) (f : RecordFault) (bytes : List ℕ)
@@ -146,7 +162,7 @@ fed_fault left faults keeps a b given f bytes going told none fed =
     let gone = fed_going left faults keeps a m given bytes going told none parts.1 in
     let last : ReadsItem m.guests m.pages m.at b.at (Err (feeds.Bad f)) gone.took.rest (left b.source) =
     reads_one m.state m.guests m.pages m.at b.at (Err (feeds.Bad f)) gone.took.rest (left b.source) gone.going (parts.2.reads gone.took.rest gone.took.is_left) in
-    ap (items_from a.guests a.pages a.at) gone.took.split ∙ ends_so a.guests a.pages a.at m.at given (Faulty f) bytes gone.took.taken gone.took.rest m.guests m.pages gone.guests gone.pages gone.took.holds last
+    ap (items_from a.guests a.pages a.at) gone.took.split ∙ ends_so a.guests a.pages a.at m.at given (Faulty f) bytes gone.took.taken gone.took.rest m.guests m.pages gone.guests gone.pages gone.took.holds.1 last
 
 -- these items, and then a read that failed: what was taken ends within an item, or where one is due
 pub fed_failed : {S : Type 0} (left : S → Option (List ℕ)) (faults : S → ℕ) (keeps : S → S → Type 0) (a b : FeedView S) (given : List FedItem) (bytes : List ℕ)
@@ -160,7 +176,7 @@ fed_failed left faults keeps a b given bytes going told none fed =
     reads_one m.state m.guests m.pages m.at b.at (Err feeds.Failed) gone.took.rest (left b.source) gone.going (parts.2.reads gone.took.rest gone.took.is_left) in (
       m.at,
       took_on bytes (left m.source) (left b.source) _ _ _ gone.took last
-          (λ xs ys one two. ends_so a.guests a.pages a.at m.at given (Faulty (fault m.at kinds.Short)) bytes xs ys m.guests m.pages gone.guests gone.pages one two),
+          (λ xs ys one two. ends_so a.guests a.pages a.at m.at given (Faulty (fault m.at kinds.Short)) bytes xs ys m.guests m.pages gone.guests gone.pages one.1 two),
     )
 
 -- where a read failed, the count of faults rose

@@ -8,14 +8,16 @@ use Rattle.desk_laws.specs.declared.item.Item.TheVariants as items
 use Rattle.replay_driver.specs.declared.replay_feed.FeedState.{FeedState}
 use Rattle.replay_driver.specs.declared.replay_feed.FeedState.TheVariants as states
 use Rattle.record_format.specs.Config.{fault}
+use Rattle.record_format.specs.ItemSpellings.{fed_spelling}
 use Rattle.record_format.specs.RecordGrammar.{Ending, Ends, Faulty, Items, alone, is_end, nothing_but, item_and, items_from}
 use Rattle.record_format.specs.Readings.{Took}
 
--- One call that reads an item at this offset, and stands at that one afterwards: what it took spells
--- the item, or the record has the fault; at a failed read what was taken is no whole item.
+-- One call that reads an item at this offset, and stands at that one afterwards: what it took is the item's
+-- spelling, and no byte more, and is read as the item, whatever follows; or the record has the fault; at a failed
+-- read what was taken is no whole item.
 abbrev pub ReadsItem : ℕ → ℕ → ℕ → ℕ → Answer → List ℕ → Option (List ℕ) → Type 0
 ReadsItem guests pages at after (Ok given) bytes left =
-    Took bytes left (λ taken. (tail : List ℕ) → items_from guests pages at (taken ++ tail) ≡ item_and given (items_from guests pages after tail))
+    Took bytes left (λ taken. (taken ≡ fed_spelling given) × ((tail : List ℕ) → items_from guests pages at (taken ++ tail) ≡ item_and given (items_from guests pages after tail)))
 ReadsItem guests pages at after (Err (feeds.Bad f)) bytes left = items_from guests pages at bytes ≡ nothing_but (Faulty f)
 ReadsItem guests pages at after (Err feeds.Failed) bytes left =
     Took bytes left (λ taken. items_from guests pages at taken ≡ nothing_but (Faulty (fault at kinds.Short)))

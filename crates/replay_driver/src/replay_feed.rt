@@ -1,20 +1,20 @@
 // A feed that reads the items of a record.
-ghost use Rattle.std.specs.Prelude.{◌≡◌, ◌≤◌, ◌+◌, ◌&&◌, nat_lt, nat_le, ℕ, List, length, IfOk, IsOk, IsErrOf};
+ghost use Rattle.std.specs.Prelude.{◌≡◌, ◌≤◌, ◌+◌, ◌∷◌, ℕ, List, length, IfOk, IsOk, IsErrOf};
 ghost use Rattle.io_ports.specs.Content.{Told};
 ghost use Rattle.io_ports.specs.Counts.{Rose};
 ghost use Rattle.io_ports.specs.Feeds.{answer_of, given_after};
 ghost use Rattle.desk_laws.specs.Rules.{Fits};
+ghost use Rattle.desk_laws.specs.Stage.{takes_item};
 ghost use Rattle.desk_laws.specs.Frames.{counted};
 ghost use Rattle.desk_laws.specs.Items.{FitsItem};
-ghost use Rattle.record_format.specs.RecordGrammar.{bytes_at, store_at, guest_at, item_at};
-ghost use Rattle.replay_driver.specs.ItemParts.{no_item, item_size, item_of_end, store_of, store_right, Finds};
+ghost use Rattle.replay_driver.specs.ItemParts.{no_item, IsFront, FindsFront, next_of, Finds, size_in};
 ghost use Rattle.replay_driver.specs.FeedReadings.{state_after, coming_in};
 ghost use Rattle.replay_driver.specs.FeedRuns.{FeedGives};
 
 use desk_laws::{Item, Setup};
 use gui_num::NoMemory;
 use io_ports::{Feed, FeedFault, Next, RecordFault, RecordKind, Source};
-use record_format::{PartRead, fill_whole, half_at, is_change, number_at};
+use record_format::{PartRead, fill_whole, fixed_len, item_within};
 use std::alloc::Global;
 use std::marker::Model;
 
@@ -55,13 +55,6 @@ const fn bad(offset: u64, kind: RecordKind) -> FeedFault
     FeedFault::Bad(RecordFault { offset, kind })
 }
 
-// A field of the item at this offset is out of its range.
-fn out_of_range(at: u64) -> FeedFault
-    ensures { result ≡ FeedFault.Bad (record { offset = at; kind = RecordKind.Range }) }
-{
-    bad(at, RecordKind::Range)
-}
-
 // What a part of the item at this offset that wasn't read makes of it.
 fn no_item(at: u64, part: PartRead) -> FeedFault
     ensures { result ≡ no_item at part }
@@ -72,24 +65,20 @@ fn no_item(at: u64, part: PartRead) -> FeedFault
     }
 }
 
-// How many bytes the item takes in a record.
-fn item_size(next: &Next) -> u64
-    requires { next.now.len ≤ 65536 }
-    ensures { result ≡ item_size next.now.item next.now.len }
+// Whether the item is one of those that there are so far.
+fn takes_item(item: &Item) -> bool
+    ensures { result ≡ takes_item item.now }
 {
-    match next.item {
-        Item::Bytes { .. } => 6 + next.len as u64,
-        Item::Store { .. } => 16 + next.len as u64,
-        Item::Closed { .. } | Item::Lost { .. } => 2,
-        _ => 1,
+    match item {
+        Item::Bytes { .. }
+        | Item::Closed { .. }
+        | Item::Store { .. }
+        | Item::Snap
+        | Item::End
+        | Item::Lost { .. }
+        | Item::Idle => true,
+        _ => false,
     }
-}
-
-// A guest below the number of guests, and a length of 1 to 65,536 bytes.
-fn is_piece(guests: u32, guest: u32, len: usize) -> bool
-    ensures { result ≡ nat_lt guest guests && (nat_le 1 len && nat_le len 65536) }
-{
-    guest < guests && (1 <= len && len <= 65_536)
 }
 
 // Where a feed stands behind an item.
@@ -112,160 +101,20 @@ fn state_at(fault: FeedFault) -> FeedState
     }
 }
 
-// Reads a piece of a guest's bytes from behind its kind byte, which has this offset.
-fn read_bytes<S: Source>(
-    source: &mut S,
-    guests: u32,
-    at: u64,
-    room: &mut [u8],
-) -> Result<Next, FeedFault>
-    requires { 65536 ≤ length room.old }
-    ensures finds { Told (S.left source.old) (λ bytes. Finds (bytes_at guests) 1 at (answer_of result room.new) bytes (S.left source.new)) }
-    ensures range { IfOk result (λ n. (pages : ℕ) → FitsItem guests pages n.item n.len) }
-    ensures small { IfOk result (λ n. n.len ≤ 65536) }
-    ensures keeps { S.keeps source.old source.new }
-    ensures later { S.faults source.old ≤ S.faults source.new }
-    ensures failed { IsErrOf result FeedFault.Failed → Rose (S.faults source.old) (S.faults source.new) }
+// A kind byte, and fields behind it.
+fn front_of(kind: u8, fields: &[u8; 15]) -> [u8; 16]
+    ensures { result ≡ kind ∷ fields.now }
 {
-    let mut fixed = [0u8; 5];
-    match fill_whole(source, &mut fixed) {
-        Ok(()) => {}
-        Err(part) => return Err(no_item(at, part)),
-    }
-    let guest = fixed[0] as u32;
-    let len = number_at(&fixed, 1) as usize;
-    if !is_piece(guests, guest, len) {
-        return Err(out_of_range(at));
-    }
-    match fill_whole(source, &mut room[..len]) {
-        Ok(()) => Ok(Next {
-            item: Item::Bytes { guest },
-            len,
-        }),
-        Err(part) => Err(no_item(at, part)),
-    }
+    let mut front = [kind; 16];
+    front[1..].copy_from_slice(fields);
+    front
 }
 
-// A guest below the number of guests, and a change of whole words within one of the pages.
-fn is_store(guests: u32, pages: u32, fixed: &[u8]) -> bool
-    requires { length fixed.now ≡ 15 }
-    ensures { result ≡ store_right guests pages fixed.now }
-{
-    let guest = fixed[0] as u32;
-    guest < guests
-        && is_change(
-            pages,
-            number_at(fixed, 3),
-            number_at(fixed, 7),
-            number_at(fixed, 11),
-        )
-}
-
-// The change that these fields are.
-fn store_of(fixed: &[u8]) -> Item
-    requires { length fixed.now ≡ 15 }
-    ensures { result ≡ store_of fixed.now }
-{
-    Item::Store {
-        guest: fixed[0] as u32,
-        delay: half_at(fixed, 1),
-        page: number_at(fixed, 3),
-        offset: number_at(fixed, 7),
-    }
-}
-
-// Reads a change of a guest's frames from behind its kind byte, which has this offset.
-fn read_store<S: Source>(
-    source: &mut S,
-    guests: u32,
-    pages: u32,
-    at: u64,
-    room: &mut [u8],
-) -> Result<Next, FeedFault>
-    requires { 65536 ≤ length room.old }
-    ensures finds { Told (S.left source.old) (λ bytes. Finds (store_at guests pages) 1 at (answer_of result room.new) bytes (S.left source.new)) }
-    ensures range { IfOk result (λ n. FitsItem guests pages n.item n.len) }
-    ensures small { IfOk result (λ n. n.len ≤ 65536) }
-    ensures keeps { S.keeps source.old source.new }
-    ensures later { S.faults source.old ≤ S.faults source.new }
-    ensures failed { IsErrOf result FeedFault.Failed → Rose (S.faults source.old) (S.faults source.new) }
-{
-    let mut fixed = [0u8; 15];
-    match fill_whole(source, &mut fixed) {
-        Ok(()) => {}
-        Err(part) => return Err(no_item(at, part)),
-    }
-    let len = number_at(&fixed, 11) as usize;
-    if !is_store(guests, pages, &fixed) {
-        return Err(out_of_range(at));
-    }
-    match fill_whole(source, &mut room[..len]) {
-        Ok(()) => Ok(Next {
-            item: store_of(&fixed),
-            len,
-        }),
-        Err(part) => Err(no_item(at, part)),
-    }
-}
-
-// What ends a session from outside: its guest closed the stream, or the link to it failed.
-#[derive(Clone, Copy)]
-enum SessionEnd {
-    Closed,
-    Lost,
-}
-
-// The item that ends a guest's session so.
-fn item_of_end(end: SessionEnd, guest: u32) -> Item
-    ensures { result ≡ item_of_end end guest }
-{
-    match end {
-        SessionEnd::Closed => Item::Closed { guest },
-        SessionEnd::Lost => Item::Lost { guest },
-    }
-}
-
-// Reads the guest whose session ends from behind the kind byte, which has this offset.
-fn read_end<S: Source>(
-    source: &mut S,
-    guests: u32,
-    at: u64,
-    end: SessionEnd,
-) -> Result<Next, FeedFault>
-    ensures finds { (room : List ℕ) → Told (S.left source.old) (λ bytes. Finds (guest_at (item_of_end end) guests) 1 at (answer_of result room) bytes (S.left source.new)) }
-    ensures range { IfOk result (λ n. (pages : ℕ) → FitsItem guests pages n.item n.len) }
-    ensures small { IfOk result (λ n. n.len ≤ 65536) }
-    ensures keeps { S.keeps source.old source.new }
-    ensures later { S.faults source.old ≤ S.faults source.new }
-    ensures failed { IsErrOf result FeedFault.Failed → Rose (S.faults source.old) (S.faults source.new) }
-{
-    let mut fixed = [0u8; 1];
-    match fill_whole(source, &mut fixed) {
-        Ok(()) => {}
-        Err(part) => return Err(no_item(at, part)),
-    }
-    let guest = fixed[0] as u32;
-    if guest >= guests {
-        return Err(out_of_range(at));
-    }
-    Ok(Next {
-        item: item_of_end(end, guest),
-        len: 0,
-    })
-}
-
-// Reads the item at this offset.
-fn read_item<S: Source>(
-    source: &mut S,
-    guests: u32,
-    pages: u32,
-    at: u64,
-    room: &mut [u8],
-) -> Result<Next, FeedFault>
-    requires { 65536 ≤ length room.old }
-    ensures finds { Told (S.left source.old) (λ bytes. Finds (item_at guests pages) 0 at (answer_of result room.new) bytes (S.left source.new)) }
-    ensures range { IfOk result (λ n. FitsItem guests pages n.item n.len) }
-    ensures small { IfOk result (λ n. n.len ≤ 65536) }
+// Reads the kind byte of the item at this offset and its fields, and answers how many bytes of fields these
+// are; zeros follow them.
+fn read_front<S: Source>(source: &mut S, at: u64) -> Result<([u8; 16], usize), FeedFault>
+    ensures finds { Told (S.left source.old) (λ bytes. FindsFront at result bytes (S.left source.new)) }
+    ensures front { IfOk result (λ found. IsFront found.1 found.0) }
     ensures keeps { S.keeps source.old source.new }
     ensures later { S.faults source.old ≤ S.faults source.new }
     ensures failed { IsErrOf result FeedFault.Failed → Rose (S.faults source.old) (S.faults source.new) }
@@ -275,20 +124,47 @@ fn read_item<S: Source>(
         Ok(()) => {}
         Err(part) => return Err(no_item(at, part)),
     }
-    match kind[0] {
-        2 => read_bytes(source, guests, at, room),
-        3 => read_end(source, guests, at, SessionEnd::Closed),
-        4 => read_store(source, guests, pages, at, room),
-        9 => Ok(Next {
-            item: Item::Snap,
-            len: 0,
-        }),
-        10 => Ok(Next {
-            item: Item::End,
-            len: 0,
-        }),
-        11 => read_end(source, guests, at, SessionEnd::Lost),
-        _ => Err(bad(at, RecordKind::Kind)),
+    let n = match fixed_len(kind[0]) {
+        Some(n) => n,
+        None => return Err(bad(at, RecordKind::Kind)),
+    };
+    let mut fields = [0u8; 15];
+    match fill_whole(source, &mut fields[..n]) {
+        Ok(()) => Ok((front_of(kind[0], &fields), n)),
+        Err(part) => Err(no_item(at, part)),
+    }
+}
+
+// Reads the item at this offset, and answers how many bytes it takes with its piece.
+fn read_item<S: Source>(
+    source: &mut S,
+    guests: u32,
+    pages: u32,
+    at: u64,
+    room: &mut [u8],
+) -> Result<(Next, usize), FeedFault>
+    requires { 65536 ≤ length room.old }
+    ensures finds { Told (S.left source.old) (λ bytes. Finds guests pages at (answer_of (next_of result) room.new) bytes (S.left source.new)) }
+    ensures size { IfOk result (λ found. found.1 ≡ size_in found.0 room.new) }
+    ensures range { IfOk result (λ found. FitsItem guests pages found.0.item found.0.len) }
+    ensures keeps { S.keeps source.old source.new }
+    ensures later { S.faults source.old ≤ S.faults source.new }
+    ensures failed { IsErrOf result FeedFault.Failed → Rose (S.faults source.old) (S.faults source.new) }
+{
+    let (front, n) = match read_front(source, at) {
+        Ok(found) => found,
+        Err(fault) => return Err(fault),
+    };
+    let (item, len) = match item_within(&front[..1 + n], guests as usize, pages) {
+        Some(found) => found,
+        None => return Err(bad(at, RecordKind::Range)),
+    };
+    if !takes_item(&item) {
+        return Err(bad(at, RecordKind::Kind));
+    }
+    match fill_whole(source, &mut room[..len]) {
+        Ok(()) => Ok((Next { item, len }, 1 + n + len)),
+        Err(part) => Err(no_item(at, part)),
     }
 }
 
@@ -326,10 +202,9 @@ impl<S: Source> ReplayFeed<S> {
     fn go_on(&mut self, room: &mut [u8]) -> Result<Next, FeedFault>
         requires going { self.old.state ≡ FeedState.Going }
         requires room { 65536 ≤ length room.old }
-        ensures finds { Told (S.left self.old.source) (λ bytes. Finds (item_at self.old.guests self.old.pages) 0 self.old.at (answer_of result room.new) bytes (S.left self.new.source)) }
+        ensures finds { Told (S.left self.old.source) (λ bytes. Finds self.old.guests self.old.pages self.old.at (answer_of result room.new) bytes (S.left self.new.source)) }
         ensures range { IfOk result (λ n. FitsItem self.old.guests self.old.pages n.item n.len) }
-        ensures small { IfOk result (λ n. n.len ≤ 65536) }
-        ensures at { IfOk result (λ n. self.new.at ≡ counted (self.old.at + item_size n.item n.len)) }
+        ensures at { IfOk result (λ n. self.new.at ≡ counted (self.old.at + size_in n room.new)) }
         ensures state { self.new.state ≡ state_after FeedState.Going (answer_of result room.new) }
         ensures given { self.new.given ≡ given_after result self.old.given }
         ensures guests { self.new.guests ≡ self.old.guests }
@@ -339,8 +214,8 @@ impl<S: Source> ReplayFeed<S> {
         ensures failed { IsErrOf result FeedFault.Failed → Rose (S.faults self.old.source) (S.faults self.new.source) }
     {
         match read_item(&mut self.source, self.guests, self.pages, self.at, room) {
-            Ok(next) => {
-                self.at = self.at.saturating_add(item_size(&next));
+            Ok((next, size)) => {
+                self.at = self.at.saturating_add(size as u64);
                 self.given = self.given.saturating_add(1);
                 self.state = state_behind(&next.item);
                 Ok(next)

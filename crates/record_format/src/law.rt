@@ -1,0 +1,15 @@
+// What is known of the grammars.
+ghost use Rattle.record_format.specs.RecordLaws.{ItemsAreRead, WholeRecordsAreRead, CutRecordsAreShort, ReadRecordsWereSpelled, ReadItemsFit};
+
+/// Does nothing. Its contract says that a record is read as it was spelled: a setup that breaks no rule
+/// and items that fit it are read as exactly these, and then what stands behind them; with End behind
+/// them they are the whole record, whatever follows; with nothing behind them the record is too short,
+/// at its end. And the other way: a setup and items that are read of bytes are spelled by them, up to
+/// End, or to the offset of a fault, where no item stands; and each of these items fits the setup.
+pub fn law_of_records()
+    ensures read { ItemsAreRead }
+    ensures whole { WholeRecordsAreRead }
+    ensures short { CutRecordsAreShort }
+    ensures spelled { ReadRecordsWereSpelled }
+    ensures fits { ReadItemsFit }
+{}
