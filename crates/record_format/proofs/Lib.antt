@@ -8,3 +8,4 @@ pub mod PostLemmas
 pub mod ReadConfigLemmas
 pub mod ItemAtLemmas
 pub mod RecordLemmas
+pub mod OutputLemmas

@@ -13,7 +13,7 @@ use Rattle.record_format.specs.OutputGrammar.{guest_byte, reply_record, ended_re
 use Rattle.record_format.specs.PostFields.{OutPost, Reply, Ended, Picture, Summary, post_spelling, HasPostSpelling, framed_read, post_read}
 use Rattle.record_format.proofs.ReaderLemmas.{seam}
 
-byte_is : (guest : ℕ) → guest < 2 ^ 8 → guest_byte guest ≡ guest
+pub byte_is : (guest : ℕ) → guest < 2 ^ 8 → guest_byte guest ≡ guest
 byte_is guest small = omega (arith, small)
 
 long_enough : (n : ℕ) (xs : List ℕ) → n ≤ length xs → nat_lt (length xs) n ≡ false

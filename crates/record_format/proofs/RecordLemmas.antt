@@ -254,7 +254,7 @@ unfolding items_from
 items_were guests pages at bytes small h = within_were (suc (length bytes)) guests pages at bytes small h (omega arith)
 
 -- each is below 256, past the end too
-are_bytes : (bytes : List ℕ) → All (λ b. b < 256) bytes → AreBytes bytes
+pub are_bytes : (bytes : List ℕ) → All (λ b. b < 256) bytes → AreBytes bytes
 are_bytes [] h k = omega arith
 are_bytes (b ∷ bytes) h zero = All-head (λ n. n < 256) b bytes h
 are_bytes (b ∷ bytes) h (suc k) = are_bytes bytes (All-tail (λ n. n < 256) b bytes h) k

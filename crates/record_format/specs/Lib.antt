@@ -7,3 +7,4 @@ pub mod ItemSpellings
 pub mod ItemFields
 pub mod PostFields
 pub mod RecordLaws
+pub mod OutputRecords

@@ -1,5 +1,6 @@
 // What is known of the grammars.
 ghost use Rattle.record_format.specs.RecordLaws.{ItemsAreRead, WholeRecordsAreRead, CutRecordsAreShort, ReadRecordsWereSpelled, ReadItemsFit};
+ghost use Rattle.record_format.specs.OutputRecords.{PostsAreRead, GuestRecordsAreRead, ReadPostsWereSpelled};
 
 /// Does nothing. Its contract says that a record is read as it was spelled: a setup that breaks no rule
 /// and items that fit it are read as exactly these, and then what stands behind them; with End behind
@@ -12,4 +13,14 @@ pub fn law_of_records()
     ensures short { CutRecordsAreShort }
     ensures spelled { ReadRecordsWereSpelled }
     ensures fits { ReadItemsFit }
+{}
+
+/// Does nothing. Its contract says that the bytes of posts are read again as these posts, one record after
+/// another, where the numbers have the widths of their fields; so the replies and endings of a guest in an
+/// output are a function of the output's bytes, and are the posts for this guest, in their order. And the
+/// other way: the records that are read of bytes are spelled by them.
+pub fn law_of_posts()
+    ensures read { PostsAreRead }
+    ensures guest { GuestRecordsAreRead }
+    ensures spelled { ReadPostsWereSpelled }
 {}

@@ -16,6 +16,6 @@ pub use config::{ConfigRead, read_config};
 pub use config_out::{config_len, put_config};
 pub use item::{fixed_len, item_of, item_within};
 pub use item_out::spell_item;
-pub use law::law_of_records;
+pub use law::{law_of_posts, law_of_records};
 pub use part::{PartRead, fill_whole};
 pub use post::{Post, post_of};
