@@ -8,6 +8,7 @@ use Rattle.io_ports.specs.declared.feed.RecordKind.{RecordKind}
 use Rattle.io_ports.specs.declared.feed.RecordKind.TheVariants as kinds
 use Rattle.desk_laws.specs.declared.setup.Setup.{Setup}
 use Rattle.desk_laws.specs.declared.setup.GuestSetup.{GuestSetup}
+use Rattle.desk_laws.specs.declared.limits.TheConstants.{MAX_GUESTS}
 use Rattle.desk_laws.specs.Rules.{within, first_broken}
 
 -- what is wrong with a configuration: a fault of the record, or the number of the first rule that it breaks
@@ -36,7 +37,7 @@ head_wrong head =
     else if nat_lt (length head) 5 then Some (Fault (fault 4 kinds.Short))
     else if not (slice_index head 4 == 1) then Some (Fault (fault 4 kinds.Kind))
     else if nat_lt (length head) 34 then Some (Fault (fault 4 kinds.Short))
-    else if within 1 16 (slice_index head 33) then None
+    else if within 1 MAX_GUESTS (slice_index head 33) then None
     else Some (Rule 1)
 
 -- the setup that these 34 bytes and these guests are

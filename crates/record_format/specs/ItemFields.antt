@@ -5,6 +5,7 @@ use Rattle.byteorder.specs.Endian.{little_number}
 use Rattle.io_ports.specs.Content.{IsPrefix}
 use Rattle.desk_laws.specs.declared.item.Item.{Item}
 use Rattle.desk_laws.specs.declared.item.Item.TheVariants.{Bytes, Closed, Store, Key, Move, Press, Close, Next, Restore, MoveTo, SizeTo, Snap, End, Lost}
+use Rattle.desk_laws.specs.declared.limits.TheConstants.{MAX_PIECE, PAGE_BYTES}
 use Rattle.desk_laws.specs.Rules.{within}
 use Rattle.record_format.specs.Config.{number_at}
 use Rattle.record_format.specs.ItemSpellings.{item_spelling, FitsRecord}
@@ -48,10 +49,10 @@ if_right right item len = if right then Some (item, len) else None
 
 -- a change of whole words within one page
 abbrev pub is_change : ℕ → ℕ → ℕ → ℕ → Bool
-is_change pages page offset len = nat_lt page pages && (offset % 4 == 0 && (len % 4 == 0 && (within 4 4096 len && nat_le offset (4096 - len))))
+is_change pages page offset len = nat_lt page pages && (offset % 4 == 0 && (len % 4 == 0 && (within 4 PAGE_BYTES len && nat_le offset (PAGE_BYTES - len))))
 
 abbrev pub piece_read : ℕ → List ℕ → Option (Item × ℕ)
-piece_read guests bytes = if_right (nat_lt (slice_index bytes 1) guests && within 1 65536 (number_at 2 bytes)) (Bytes (slice_index bytes 1)) (number_at 2 bytes)
+piece_read guests bytes = if_right (nat_lt (slice_index bytes 1) guests && within 1 MAX_PIECE (number_at 2 bytes)) (Bytes (slice_index bytes 1)) (number_at 2 bytes)
 
 -- an item of a guest alone
 abbrev pub guest_read : (ℕ → Item) → ℕ → List ℕ → Option (Item × ℕ)

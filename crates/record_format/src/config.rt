@@ -8,7 +8,7 @@ ghost use Rattle.record_format.specs.Parts.{IsWrong, no_config};
 ghost use Rattle.record_format.specs.Readings.{Reads};
 
 use crate::part::{PartRead, fill_whole};
-use desk_laws::{GuestSetup, Guests, Name, Setup};
+use desk_laws::{GuestSetup, Guests, MAX_GUESTS, Name, Setup};
 use gui_num::Colour;
 use io_ports::{RecordFault, RecordKind, Source, fill};
 use std::alloc::Global;
@@ -74,7 +74,7 @@ fn head_wrong(head: &[u8]) -> Option<ConfigRead>
     if head.len() < 34 {
         return Some(fault(4, RecordKind::Short));
     }
-    if head[33] < 1 || head[33] > 16 {
+    if head[33] < 1 || head[33] as u32 > MAX_GUESTS {
         return Some(ConfigRead::Rule(1));
     }
     None

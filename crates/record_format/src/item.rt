@@ -5,7 +5,7 @@ ghost use Rattle.record_format.specs.ItemSpellings.{item_spelling, HasWidths, Fi
 ghost use Rattle.record_format.specs.ItemFields.{fields_len, HasFields, half_at, signed_at, if_right, is_change, piece_read, guest_read, store_read, key_read, move_read, press_read, plain_read, command_read, item_read, IsSpelledBy};
 
 use crate::config::number_at;
-use desk_laws::{Item, Setup};
+use desk_laws::{Item, MAX_PIECE, PAGE_BYTES, Setup};
 
 /// How many bytes the fixed fields of an item have behind its kind byte, at most 15: `None` exactly for a
 /// kind that no item has, and for Config. The format is this project's own.
@@ -56,7 +56,7 @@ fn piece_of(bytes: &[u8], guests: usize) -> Option<(Item, usize)>
     ensures { result ≡ piece_read guests bytes.now }
 {
     let len = number_at(bytes, 2) as usize;
-    let right = (bytes[1] as usize) < guests && (1 <= len && len <= 65536);
+    let right = (bytes[1] as usize) < guests && (1 <= len && len <= MAX_PIECE as usize);
     if_right(
         right,
         Item::Bytes {
@@ -93,13 +93,13 @@ fn lost_of(bytes: &[u8], guests: usize) -> Option<(Item, usize)>
 }
 
 // Whether this is a change of whole words within one of so many pages: the offset and the length are in
-// bytes, multiples of 4, the length 4 to 4096, and the change ends within the page.
+// bytes, multiples of 4, the length at least 4, and the change ends within the page.
 fn is_change(pages: u32, page: u32, offset: u32, len: u32) -> bool
     ensures { result ≡ is_change pages page offset len }
 {
     page < pages
         && (offset % 4 == 0
-            && (len % 4 == 0 && ((4 <= len && len <= 4096) && offset <= 4096 - len)))
+            && (len % 4 == 0 && ((4 <= len && len <= PAGE_BYTES) && offset <= PAGE_BYTES - len)))
 }
 
 fn store_of(bytes: &[u8], guests: usize, pages: u32) -> Option<(Item, usize)>
@@ -232,7 +232,7 @@ pub fn item_within(bytes: &[u8], guests: usize, pages: u32) -> Option<(Item, usi
         bytes.now ≡ item_spelling item len ++ rest → result ≡ Some (item, len) }
     // what is read was spelled
     ensures spelled { IfSome result (λ found. IsSpelledBy guests pages bytes.now found) }
-    ensures small { IfSome result (λ found. found.1 ≤ 65536) }
+    ensures small { IfSome result (λ found. found.1 ≤ MAX_PIECE) }
 {
     read_fields(bytes, guests, pages)
 }

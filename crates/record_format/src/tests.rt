@@ -5,7 +5,7 @@ ghost use Rattle.record_format.specs.ItemSpellings.{item_spelling};
 ghost use Rattle.record_format.specs.ItemFields.{HasFields};
 
 use crate::{ConfigRead, config_len, fixed_len, item_of, put_config, read_config, spell_item};
-use desk_laws::{GuestSetup, Guests, Item, Name, Setup};
+use desk_laws::{GuestSetup, Guests, Item, MAX_GUESTS, MAX_PAGES, Name, Setup};
 use gui_num::Colour;
 use io_ports::{MemSink, MemSource};
 use std::alloc::Global;
@@ -34,7 +34,7 @@ fn small_desktop(alloc: Global) -> Result<Setup, Fail> {
 // An item and its spelling.
 fn goes(rt: &impl Abort, setup: &Setup, item: Item, len: usize, spelled: &[u8])
     requires there { item ≡ Item.Idle → ⊥ }
-    requires range { IsInRange 16 16384 item len }
+    requires range { IsInRange MAX_GUESTS MAX_PAGES item len }
     requires room { length (item_spelling item len) ≤ 16 }
     requires fields { HasFields spelled.now }
 {

@@ -3,6 +3,7 @@ ghost use Rattle.std.specs.Prelude.{◌≡◌, ◌≤◌, ◌+◌, ◌∷◌, �
 ghost use Rattle.io_ports.specs.Content.{Told};
 ghost use Rattle.io_ports.specs.Counts.{Rose};
 ghost use Rattle.io_ports.specs.Feeds.{answer_of, given_after};
+ghost use Rattle.desk_laws.specs.declared.limits.TheConstants.{MAX_PIECE};
 ghost use Rattle.desk_laws.specs.Rules.{Fits};
 ghost use Rattle.desk_laws.specs.Stage.{takes_item};
 ghost use Rattle.desk_laws.specs.Frames.{counted};
@@ -143,7 +144,7 @@ fn read_item<S: Source>(
     at: u64,
     room: &mut [u8],
 ) -> Result<(Next, usize), FeedFault>
-    requires { 65536 ≤ length room.old }
+    requires { MAX_PIECE ≤ length room.old }
     ensures finds { Told (S.left source.old) (λ bytes. Finds guests pages at (answer_of (next_of result) room.new) bytes (S.left source.new)) }
     ensures size { IfOk result (λ found. found.1 ≡ size_in found.0 room.new) }
     ensures range { IfOk result (λ found. FitsItem guests pages found.0.item found.0.len) }
@@ -201,7 +202,7 @@ impl<S: Source> ReplayFeed<S> {
     // Reads the item that is due.
     fn go_on(&mut self, room: &mut [u8]) -> Result<Next, FeedFault>
         requires going { self.old.state ≡ FeedState.Going }
-        requires room { 65536 ≤ length room.old }
+        requires room { MAX_PIECE ≤ length room.old }
         ensures finds { Told (S.left self.old.source) (λ bytes. Finds self.old.guests self.old.pages self.old.at (answer_of result room.new) bytes (S.left self.new.source)) }
         ensures range { IfOk result (λ n. FitsItem self.old.guests self.old.pages n.item n.len) }
         ensures at { IfOk result (λ n. self.new.at ≡ counted (self.old.at + size_in n room.new)) }
