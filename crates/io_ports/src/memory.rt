@@ -32,7 +32,7 @@ impl Model for MemSource {
 
 impl MemSource {
     /// A source of these bytes. `fails` has the numbers of the reads that fail, counted from 1.
-    /// Its only error is want of memory.
+    /// Its only error is that there is no memory.
     pub fn new(alloc: Global, bytes: &[u8], fails: &[u64]) -> Result<Self, NoMemory>
         ensures bytes { IfOk result (λ s. s.left ≡ bytes.now) }
         ensures fails { IfOk result (λ s. s.failing ≡ to_fail fails.now) }
@@ -95,7 +95,7 @@ impl Model for MemSink {
 
 impl MemSink {
     /// A sink that was given nothing. `fails` has the numbers of the puts that fail, counted from
-    /// 1. Its only error is want of memory.
+    /// 1. Its only error is that there is no memory.
     pub fn new(alloc: Global, fails: &[u64]) -> Result<Self, NoMemory>
         ensures bytes { IfOk result (λ k. k.kept ≡ none_kept) }
         ensures fails { IfOk result (λ k. k.failing ≡ to_fail fails.now) }

@@ -37,7 +37,7 @@ pub trait Sink {
     ghost keeps_on: { (a b c : Self) → keeps a b → keeps b c → keeps a c };
 }
 
-// A sink that is lent is the same sink.
+// A borrowed sink is the same sink.
 impl<K: Sink> Sink for &mut K {
     ghost written = { λ k. K.written k.now };
 

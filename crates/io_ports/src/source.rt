@@ -40,7 +40,7 @@ pub trait Source {
     ghost keeps_on: { (a b c : Self) → keeps a b → keeps b c → keeps a c };
 }
 
-// A source that is lent is the same source.
+// A borrowed source is the same source.
 impl<S: Source> Source for &mut S {
     ghost left = { λ s. S.left s.now };
 

@@ -1,6 +1,6 @@
 // The readers and writers of std as sources and sinks. They tell no content.
 ghost use Rattle.std.specs.Prelude.{◌≡◌, ℕ, ◌<◌, ◌≤◌, ◌↔◌, [], length, take, IfOk, OnErr, is_err, ⊤};
-ghost use Rattle.std.specs.Io.KnownBytes.{ReadConsumes, WriteAppends};
+ghost use Rattle.std.specs.Io.KnownBytes.{Keeps, ReadConsumes, WriteAppends};
 ghost use Rattle.io_ports.specs.Content.{Grows, Taken, Told, untold};
 ghost use Rattle.io_ports.specs.Counts.{HasCause, faults_after};
 ghost use Rattle.io_ports.specs.StdStreams.{read_faults, reader_of, write_faults, writer_of};
@@ -75,6 +75,21 @@ impl<W: Write> StdSink<W> {
         ensures faults { write_faults result ≡ 0 }
     {
         StdSink { inner, faults: 0 }
+    }
+
+    /// Flushes the writer. Its error is a fault, and is counted.
+    pub fn flush(&mut self) -> Result<(), Failed>
+        ensures counts { write_faults self.new ≡ faults_after (is_err result) (write_faults self.old) }
+        ensures cause { HasCause (write_faults self.old) (write_faults self.new) result }
+        ensures kept { Keeps (W.contents (writer_of self.old)) (W.contents (writer_of self.new)) }
+    {
+        match self.inner.flush() {
+            Ok(()) => Ok(()),
+            Err(_) => {
+                self.faults = self.faults.saturating_add(1);
+                Err(Failed)
+            }
+        }
     }
 }
 

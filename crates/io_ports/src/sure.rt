@@ -26,7 +26,7 @@ impl Model for SureSource {
 }
 
 impl SureSource {
-    /// A source of these bytes. Its only error is want of memory.
+    /// A source of these bytes. Its only error is that there is no memory for them.
     pub fn new(alloc: Global, bytes: &[u8]) -> Result<Self, NoMemory>
         ensures { IfOk result (λ s. s ≡ bytes.now) }
     {

@@ -1,4 +1,4 @@
-// Each port over a few bytes, with memory in plenty.
+// Each port over a few bytes, with ample memory.
 ghost use Rattle.std.specs.Prelude.{◌≡◌, ℕ, Some, [], None, ⊤};
 ghost use Rattle.io_ports.specs.Feeds.{Coming};
 ghost use Rattle.io_ports.specs.Memory.{told_of};
@@ -31,7 +31,7 @@ impl Sink for NarrowSink {
     }
 }
 
-// A writer that takes nothing.
+// A writer that takes nothing, and can't be flushed.
 #[derive(Drop)]
 struct FullDisk {}
 
@@ -41,7 +41,7 @@ impl Write for FullDisk {
     }
 
     fn flush(&mut self) -> io::Result<()> {
-        Ok(())
+        Err(io::Error::from(io::ErrorKind::StorageFull))
     }
 }
 
@@ -142,7 +142,7 @@ fn puts_all_in_parts(rt: HostRuntime) -> Result<(), Fail> {
 }
 
 #[test]
-fn copies_between_lent_ports(rt: HostRuntime) -> Result<(), Fail> {
+fn copies_between_borrowed_ports(rt: HostRuntime) -> Result<(), Fail> {
     let mut source = SureSource::new(rt.alloc(), b"abcdef")?;
     let mut sink = SureSink::new(rt.alloc())?;
     assert_eq!(rt; copy_once(&mut source, &mut sink), Ok(4));
@@ -162,6 +162,9 @@ fn adapters_count_nothing_taken(rt: HostRuntime) -> Result<(), Fail> {
     let mut sink = StdSink::new(FullDisk {});
     assert_eq!(rt; sink.put(b""), Ok(0));
     assert_eq!(rt; sink.put(b"a"), Err(Failed));
+    assert_eq!(rt; sink.flush(), Err(Failed));
+    let mut sink = StdSink::new(Vec::new(rt.alloc()));
+    assert_eq!(rt; sink.flush(), Ok(()));
     Ok(())
 }
 
