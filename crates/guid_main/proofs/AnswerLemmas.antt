@@ -6,6 +6,7 @@ use Rattle.desk_laws.specs.declared.item.Item.TheVariants as items
 use Rattle.desk_laws.specs.Items.{FedItem}
 use Rattle.io_ports.specs.Content.{Grows, GrowsPart}
 use Rattle.io_ports.specs.Counts.{Rose}
+use Rattle.io_ports.specs.Feeds.{Coming}
 use Rattle.io_ports.specs.declared.feed.FeedFault.{FeedFault}
 use Rattle.io_ports.specs.declared.feed.FeedFault.TheVariants as feeds
 use Rattle.io_ports.specs.declared.feed.RecordFault.{RecordFault}
@@ -19,13 +20,14 @@ use Rattle.replay_driver.specs.declared.replay_feed.FeedState.TheVariants as sta
 use Rattle.replay_driver.specs.FeedView.{FeedView}
 use Rattle.guid_main.specs.declared.status.Status.{Status}
 use Rattle.guid_main.specs.declared.status.Status.TheVariants as statuses
-use Rattle.replay_driver.specs.FeedOutcomes.{EndsLast, EndsNowhereElse, Ran}
+use Rattle.replay_driver.specs.FeedOutcomes.{EndsLast, EndsNowhereElse, FeedCall, Ran}
 use Rattle.guid_main.specs.Answers.{SaysBy, Says, most_items, record_behind, status_of, after_config}
 use Rattle.record_format.specs.Config.{Fault, fault, config_of, config_len}
 use Rattle.replay_driver.specs.FeedRuns.{FeedGives, Fed, NoEnd}
 use Rattle.replay_driver.specs.Outputs.{output, output_of}
 use Rattle.record_format.specs.Readings.{Took, Spells, SpellsNothing, Reads}
 use Rattle.record_format.specs.RecordGrammar.{Items, Ends, Faulty, Record, Run, BadStart, alone, with_front, items_from, started, record_of, whole}
+use Rattle.replay_driver.proofs.RunLemmas.{fed_so}
 use Rattle.replay_driver.proofs.FeedRuns.{fed_going, fed_end, fed_fault, fed_failed}
 
 -- where what was taken has one fact, it has another
@@ -51,6 +53,11 @@ part_so : (before after : Option (List ℕ)) (xs ys : List ℕ) → xs ≡ ys �
 part_so before after xs ys is part = subst (λ (l : List ℕ). GrowsPart before l after) is part
 
 -- ---- a run over a feed that reads a record
+
+-- the calls of a feed that reads a record, by the feed's own relation
+pub record_fed : {S : Type 0} (left : S → Option (List ℕ)) (faults : S → ℕ) (keeps : S → S → Type 0) (coming : FeedView S → Option Coming) (count : FeedView S → ℕ) (a b : FeedView S)
+    (given : List FedItem) (last : Option FeedFault) → Fed (FeedCall (FeedGives left faults keeps) coming count) a given last b → Fed (FeedGives left faults keeps) a given last b
+record_fed left faults keeps coming count a b given last fed = fed_so (FeedCall (FeedGives left faults keeps) coming count) (FeedGives left faults keeps) (λ a answer b call. call.gave) given last a b fed
 
 done_says : {S : Type 0} (left : S → Option (List ℕ)) (faults : S → ℕ) (keeps : S → S → Type 0) (setup : Setup) (a b : FeedView S) (bytes : List ℕ) (given : List FedItem) (before after : Option (List ℕ))
     → a.state ≡ states.Going → a.guests ≡ length setup.guests → a.pages ≡ setup.pages → a.at ≡ config_len setup → left a.source ≡ Some bytes

@@ -1,16 +1,17 @@
 -- What was given and written so far, and what each outcome says then.
-use Rattle.std.proofs.Common.{◌≡◌, ℕ, ◌+◌, ◌<◌, ◌≤◌, List, [], ◌∷◌, ◌++◌, length, take, Option, Some, None, Ok, Err, true, false, inl, inr, refl, sym, ◌∙◌, ap, subst, arith, append_assoc, length-append}
+use Rattle.std.proofs.Common.{◌≡◌, ℕ, ◌+◌, ◌<◌, ◌≤◌, List, [], ◌∷◌, ◌++◌, length, take, Option, Some, None, Ok, Err, true, false, inl, inr, refl, sym, ◌∙◌, ap, subst, arith, append_assoc, length-append, length-take}
 use Rattle.std.specs.Prelude.{◌⊎◌}
 use Rattle.std.proofs.lemmas.Bool.{cases_Bool}
-use Rattle.std.proofs.lemmas.List.{append-nil}
+use Rattle.std.proofs.lemmas.List.{append-nil, get_or-replicate}
+use Rattle.std.proofs.lemmas.List.Elements.{All-append, All-cons}
 use Rattle.std.proofs.lemmas.List.Concat.{flat_map-append}
 use Rattle.desk_laws.specs.declared.setup.Setup.{Setup}
 use Rattle.desk_laws.specs.declared.item.Item.{Item}
 use Rattle.desk_laws.specs.declared.item.Item.TheVariants as items
 use Rattle.desk_laws.specs.Items.{FedItem, IsInRange, FitsItem}
 use Rattle.desk_laws.specs.Scene.{Post}
-use Rattle.desk_laws.specs.Frames.{PortState}
-use Rattle.desk_laws.specs.State.{DeskState, opening}
+use Rattle.desk_laws.specs.Frames.{PortState, zeros}
+use Rattle.desk_laws.specs.State.{DeskState, Session, fresh, opening, session_of}
 use Rattle.desk_laws.specs.Steps.{step, run}
 use Rattle.io_ports.specs.Content.{Grows, GrowsPart}
 use Rattle.io_ports.specs.Feeds.{Answer}
@@ -19,7 +20,7 @@ use Rattle.io_ports.specs.declared.feed.FeedFault.TheVariants as feeds
 use Rattle.io_ports.proofs.GrowLemmas.{grows_none, grows_on, part_behind}
 use Rattle.desk_core.specs.DeskView.{DeskView, picture_of}
 use Rattle.replay_driver.specs.declared.outcome.Outcome.TheVariants as outcomes
-use Rattle.replay_driver.specs.FeedOutcomes.{RanOver, EndsNowhereElse, after_feed}
+use Rattle.replay_driver.specs.FeedOutcomes.{RanOver, EndsNowhereElse, AllFit, AreFramesOf, after_feed}
 use Rattle.desk_core.specs.DeskStands.{Stands}
 use Rattle.replay_driver.specs.FeedRuns.{Fed, NoEnd}
 use Rattle.replay_driver.specs.ItemWrites.{step_bytes}
@@ -27,7 +28,17 @@ use Rattle.record_format.specs.OutputGrammar.{post_bytes, posts_bytes}
 use Rattle.replay_driver.specs.Outputs.{painted_from, output}
 use Rattle.desk_core.specs.Painting.{painted_after}
 use Rattle.record_format.specs.RecordGrammar.{alone, is_end}
+use Rattle.frame_pool.specs.Ports.{AreZeros}
+use Rattle.replay_driver.proofs.DeskFacts.{frames_are}
 use Rattle.replay_driver.proofs.GuestPosts.{any_count}
+
+-- ---- what one call says, each says
+
+pub fed_so : {F : Type 0} (one two : F → Answer → F → Type 0) → ((a : F) (answer : Answer) (b : F) → one a answer b → two a answer b)
+    → (given : List FedItem) (last : Option FeedFault) (a b : F) → Fed one a given last b → Fed two a given last b
+fed_so one two so [] None a b fed = fed
+fed_so one two so [] (Some fault) a b fed = so a (Err fault) b fed
+fed_so one two so (g ∷ given) last a b fed = (fed.0, so a (Ok g) fed.0 fed.1, fed_so one two so given last fed.0 b fed.2)
 
 -- ---- one item more
 
@@ -99,6 +110,24 @@ so_far_more setup given g p more =
     ∙ sym (flat_map-append (post_bytes 0) before one)
     ∙ ap (posts_bytes 0) (sym (run_posts setup given g (opening setup)))
 
+-- one item fits
+abbrev pub Fits : Setup → FedItem → Type 0
+Fits setup g = FitsItem (length setup.guests) setup.pages g.item (length g.piece)
+
+fit_more : (setup : Setup) (given : List FedItem) (g : FedItem) → AllFit setup given → Fits setup g → AllFit setup (given ++ g ∷ [])
+fit_more setup given g fits one = All-append (Fits setup) given (g ∷ []) fits (All-cons (Fits setup) g [] one (λ k other below. absurd (omega (arith, below))))
+
+-- ---- the frames
+
+first_session : (setup : Setup) (guest : ℕ) → guest < length setup.guests → (session_of guest (opening setup)).port ≡ zeros setup.pages
+first_session setup guest below = ap (λ (s : Session). s.port) (get_or-replicate (length setup.guests) guest (fresh setup.pages) (fresh 0) below)
+
+-- after one item more the frames are those of the state that the desk stands for
+frames_more : (setup : Setup) (given : List FedItem) (g : FedItem) (desk : DeskView) (frames : ℕ → PortState)
+    → Stands setup desk frames (step setup g.item g.piece (run setup given (opening setup)).desk).desk → AreFramesOf setup (run setup (given ++ g ∷ []) (opening setup)).desk frames
+frames_more setup given g desk frames stands =
+    subst (λ (s : DeskState). AreFramesOf setup s frames) (sym (run_desk setup given g (opening setup))) (frames_are setup desk frames _ stands)
+
 -- ---- what stands after some items
 
 -- n items were given and stepped, none of them End, and this is what they wrote
@@ -106,6 +135,7 @@ pub record SoFar {F : Type 0} (gives : F → Answer → F → Type 0) (setup : S
   pub given : List FedItem
   pub fed : Fed gives first given None feed
   pub no_end : NoEnd given
+  pub fits : AllFit setup given
   pub count : length given ≡ n
   pub stands : Stands setup desk frames (run setup given (opening setup)).desk
   pub painted : (picture_of desk).painted ≡ painted_from setup 0 given
@@ -117,6 +147,7 @@ started gives setup feed desk frames before stands painted = record {
   given = [];
   fed = refl;
   no_end = tt;
+  fits = λ k other below. absurd (omega (arith, below));
   count = refl;
   stands = stands;
   painted = painted;
@@ -124,15 +155,16 @@ started gives setup feed desk frames before stands painted = record {
 }
 
 pub stepped : {F : Type 0} (gives : F → Answer → F → Type 0) (setup : Setup) (n p : ℕ) (first feed after_feed : F) (desk new : DeskView) (frames frames' : ℕ → PortState) (g : FedItem) (before mid after : Option (List ℕ))
-    → (so_far : SoFar gives setup n first feed desk frames before mid) → gives feed (Ok g) after_feed → is_end g.item ≡ false
+    → (so_far : SoFar gives setup n first feed desk frames before mid) → gives feed (Ok g) after_feed → Fits setup g → is_end g.item ≡ false
     → Stands setup new frames' (step setup g.item g.piece (run setup so_far.given (opening setup)).desk).desk
     → (picture_of new).painted ≡ painted_after setup g.item (picture_of desk).painted
     → Grows mid (step_bytes p setup g.item g.piece (run setup so_far.given (opening setup)).desk) after
     → SoFar gives setup (n + 1) first after_feed new frames' before after
-stepped gives setup n p first feed after_feed desk new frames frames' g before mid after so_far one more stands painted grown = record {
+stepped gives setup n p first feed after_feed desk new frames frames' g before mid after so_far one fits more stands painted grown = record {
   given = so_far.given ++ g ∷ [];
   fed = fed_more gives so_far.given g first feed after_feed so_far.fed one;
   no_end = no_end_more so_far.given g so_far.no_end more;
+  fits = fit_more setup so_far.given g so_far.fits fits;
   count = omega (arith, length-append so_far.given (g ∷ []), so_far.count);
   stands = subst (λ (s : DeskState). Stands setup new frames' s) (sym (run_desk setup so_far.given g (opening setup))) stands;
   painted = painted ∙ ap (painted_after setup g.item) so_far.painted ∙ sym (painted_more setup so_far.given g 0);
@@ -141,18 +173,21 @@ stepped gives setup n p first feed after_feed desk new frames frames' g before m
 
 -- ---- the outcomes
 
-pub ended : {F : Type 0} (gives : F → Answer → F → Type 0) (setup : Setup) (n bound : ℕ) (first feed after_feed : F) (desk new : DeskView) (frames : ℕ → PortState) (g : FedItem) (before mid after : Option (List ℕ))
-    → (so_far : SoFar gives setup n first feed desk frames before mid) → gives feed (Ok g) after_feed → g ≡ alone items.End → n < bound
+pub ended : {F : Type 0} (gives : F → Answer → F → Type 0) (setup : Setup) (n bound : ℕ) (first feed after_feed : F) (desk new : DeskView) (frames frames' : ℕ → PortState) (g : FedItem) (before mid after : Option (List ℕ))
+    → (so_far : SoFar gives setup n first feed desk frames before mid) → gives feed (Ok g) after_feed → Fits setup g → g ≡ alone items.End → n < bound
+    → Stands setup new frames' (step setup g.item g.piece (run setup so_far.given (opening setup)).desk).desk
     → (picture_of new).painted ≡ painted_after setup g.item (picture_of desk).painted
     → Grows mid (step_bytes (picture_of new).painted setup g.item g.piece (run setup so_far.given (opening setup)).desk) after
-    → RanOver gives setup bound first after_feed outcomes.Done before after
-ended gives setup n bound first feed after_feed desk new frames g before mid after so_far one end below painted grown =
+    → RanOver gives setup bound first after_feed outcomes.Done frames' before after
+ended gives setup n bound first feed after_feed desk new frames frames' g before mid after so_far one fits end below stands painted grown =
     let all = so_far.given ++ g ∷ [] in
     let p : (picture_of new).painted ≡ painted_from setup 0 all = painted ∙ ap (painted_after setup g.item) so_far.painted ∙ sym (painted_more setup so_far.given g 0) in
     record {
       given = all;
       last = None;
       fed = fed_more gives so_far.given g first feed after_feed so_far.fed one;
+      fits = fit_more setup so_far.given g so_far.fits fits;
+      frames_left = frames_more setup so_far.given g new frames' stands;
       ran = (
         refl,
         record { front = so_far.given; is = ap (λ (x : FedItem). so_far.given ++ x ∷ []) end; no_end = so_far.no_end },
@@ -165,18 +200,21 @@ ends_behind : (given : List FedItem) (g : FedItem) → NoEnd given → (is_end g
 ends_behind given g none (inl more) = inl (no_end_more given g none more)
 ends_behind given g none (inr end) = inr (record { front = given; is = ap (λ (x : FedItem). given ++ x ∷ []) end; no_end = none })
 
-pub cut_short : {F : Type 0} (gives : F → Answer → F → Type 0) (setup : Setup) (n bound : ℕ) (first feed after_feed : F) (desk new : DeskView) (frames : ℕ → PortState) (g : FedItem) (before mid after : Option (List ℕ))
-    → (so_far : SoFar gives setup n first feed desk frames before mid) → gives feed (Ok g) after_feed → (is_end g.item ≡ false) ⊎ (g ≡ alone items.End) → n < bound
+pub cut_short : {F : Type 0} (gives : F → Answer → F → Type 0) (setup : Setup) (n bound : ℕ) (first feed after_feed : F) (desk new : DeskView) (frames frames' : ℕ → PortState) (g : FedItem) (before mid after : Option (List ℕ))
+    → (so_far : SoFar gives setup n first feed desk frames before mid) → gives feed (Ok g) after_feed → Fits setup g → (is_end g.item ≡ false) ⊎ (g ≡ alone items.End) → n < bound
+    → Stands setup new frames' (step setup g.item g.piece (run setup so_far.given (opening setup)).desk).desk
     → (picture_of new).painted ≡ painted_after setup g.item (picture_of desk).painted
     → GrowsPart mid (step_bytes (picture_of new).painted setup g.item g.piece (run setup so_far.given (opening setup)).desk) after
-    → RanOver gives setup bound first after_feed outcomes.WriteFault before after
-cut_short gives setup n bound first feed after_feed desk new frames g before mid after so_far one kind below painted part =
+    → RanOver gives setup bound first after_feed outcomes.WriteFault frames' before after
+cut_short gives setup n bound first feed after_feed desk new frames frames' g before mid after so_far one fits kind below stands painted part =
     let all = so_far.given ++ g ∷ [] in
     let p : (picture_of new).painted ≡ painted_from setup 0 all = painted ∙ ap (painted_after setup g.item) so_far.painted ∙ sym (painted_more setup so_far.given g 0) in
     record {
       given = all;
       last = None;
       fed = fed_more gives so_far.given g first feed after_feed so_far.fed one;
+      fits = fit_more setup so_far.given g so_far.fits fits;
+      frames_left = frames_more setup so_far.given g new frames' stands;
       ran = (
         refl,
         ends_behind so_far.given g so_far.no_end kind,
@@ -189,31 +227,45 @@ same_bytes : (before after : Option (List ℕ)) (xs ys : List ℕ) → xs ≡ ys
 same_bytes before after xs ys same grown = subst (λ (l : List ℕ). Grows before l after) same grown
 
 pub no_item : {F : Type 0} (gives : F → Answer → F → Type 0) (setup : Setup) (n bound : ℕ) (first feed after : F) (desk : DeskView) (frames : ℕ → PortState) (fault : FeedFault) (before mid : Option (List ℕ))
-    → SoFar gives setup n first feed desk frames before mid → gives feed (Err fault) after → n < bound → RanOver gives setup bound first after (after_feed fault) before mid
+    → SoFar gives setup n first feed desk frames before mid → gives feed (Err fault) after → n < bound → RanOver gives setup bound first after (after_feed fault) frames before mid
 no_item gives setup n bound first feed after desk frames feeds.Failed before mid so_far one below = record {
   given = so_far.given;
   last = Some feeds.Failed;
   fed = fed_last gives so_far.given feeds.Failed first feed after so_far.fed one;
+  fits = so_far.fits;
+  frames_left = frames_are setup desk frames _ so_far.stands;
   ran = (refl, so_far.no_end, omega (arith, so_far.count), same_bytes before mid _ _ (output_so_far setup so_far.given so_far.no_end) so_far.grown);
 }
 no_item gives setup n bound first feed after desk frames (feeds.Bad f) before mid so_far one below = record {
   given = so_far.given;
   last = Some (feeds.Bad f);
   fed = fed_last gives so_far.given (feeds.Bad f) first feed after so_far.fed one;
+  fits = so_far.fits;
+  frames_left = frames_are setup desk frames _ so_far.stands;
   ran = (refl, so_far.no_end, omega (arith, so_far.count), same_bytes before mid _ _ (output_so_far setup so_far.given so_far.no_end) so_far.grown);
 }
 
 pub too_long : {F : Type 0} (gives : F → Answer → F → Type 0) (setup : Setup) (n bound : ℕ) (first feed : F) (desk : DeskView) (frames : ℕ → PortState) (before mid : Option (List ℕ))
-    → SoFar gives setup n first feed desk frames before mid → n ≡ bound → RanOver gives setup bound first feed outcomes.TooLong before mid
+    → SoFar gives setup n first feed desk frames before mid → n ≡ bound → RanOver gives setup bound first feed outcomes.TooLong frames before mid
 too_long gives setup n bound first feed desk frames before mid so_far is = record {
   given = so_far.given;
   last = None;
   fed = so_far.fed;
+  fits = so_far.fits;
+  frames_left = frames_are setup desk frames _ so_far.stands;
   ran = (refl, so_far.no_end, so_far.count ∙ is, same_bytes before mid _ _ (output_so_far setup so_far.given so_far.no_end) so_far.grown);
 }
 
-pub no_memory : {F : Type 0} (gives : F → Answer → F → Type 0) (setup : Setup) (bound : ℕ) (feed : F) (before : Option (List ℕ)) → RanOver gives setup bound feed feed outcomes.NoMemory before before
-no_memory gives setup bound feed before = record { given = []; last = None; fed = refl; ran = (refl, refl, refl) }
+pub no_memory : {F : Type 0} (gives : F → Answer → F → Type 0) (setup : Setup) (bound : ℕ) (feed : F) (frames : ℕ → PortState) (before : Option (List ℕ))
+    → AreZeros (length setup.guests) setup.pages frames → RanOver gives setup bound feed feed outcomes.NoMemory frames before before
+no_memory gives setup bound feed frames before blank = record {
+  given = [];
+  last = None;
+  fed = refl;
+  fits = λ k other below. absurd (omega (arith, below));
+  ran = (refl, refl, refl);
+  frames_left = λ guest below. blank guest below ∙ sym (first_session setup guest below);
+}
 
 -- ---- items in range
 
@@ -262,6 +314,14 @@ end_alone guests pages item len room fits end =
 pub fits_desk : (guests guests' pages pages' : ℕ) (item : Item) (len len' : ℕ) → guests ≡ guests' → pages ≡ pages' → len ≡ len' → FitsItem guests pages item len → FitsItem guests' pages' item len'
 fits_desk guests guests' pages pages' item len len' many same long fits =
     subst (λ (n : ℕ). FitsItem n pages' item len') many (subst (λ (n : ℕ). FitsItem guests n item len') same (subst (λ (n : ℕ). FitsItem guests pages item n) long fits))
+
+-- the item with its piece, as it stands at the front of a room, fits where it is in the feed's ranges
+pub item_fits : (setup : Setup) (guests pages : ℕ) (item : Item) (len : ℕ) (room : List ℕ) → guests ≡ length setup.guests → pages ≡ setup.pages → 65536 ≤ length room
+    → FitsItem guests pages item len → Fits setup (record { item = item; piece = take len room })
+item_fits setup guests pages item len room many same whole fits =
+    let short : len ≤ 65536 = piece_short guests pages item len fits.in_range in
+    let long : len ≡ length (take len room) = omega (arith, length-take len room) in
+    fits_desk guests (length setup.guests) pages setup.pages item len (length (take len room)) many same long fits
 
 -- an item is End, which comes without bytes, or another
 pub end_or : (guests pages : ℕ) (item : Item) (len : ℕ) (room : List ℕ) → IsInRange guests pages item len → (is_end item ≡ false) ⊎ (record { item = item; piece = take len room } ≡ alone items.End)

@@ -1,12 +1,15 @@
--- What the outcome of a run over a feed says: of the items that were given, and of what was written.
-use Rattle.std.specs.Prelude.{◌⊎◌, ◌≡◌, ℕ, ◌<◌, ◌≤◌, List, [], ◌∷◌, ◌++◌, length, Option, Some, None}
-use Rattle.io_ports.specs.Content.{Grows, GrowsPart}
-use Rattle.io_ports.specs.Feeds.{Answer}
+-- What the outcome of a run over a feed says: of the items that were given, of what was written, and of the frames.
+use Rattle.std.specs.Prelude.{◌⊎◌, ◌≡◌, ℕ, ◌<◌, ◌≤◌, List, [], ◌∷◌, ◌++◌, length, All, Option, Some, None, Ok, Err, ◌+◌}
+use Rattle.io_ports.specs.Content.{Grows, GrowsPart, Told}
+use Rattle.io_ports.specs.Feeds.{Answer, Coming, ComesNext}
 use Rattle.io_ports.specs.declared.feed.FeedFault.{FeedFault}
 use Rattle.io_ports.specs.declared.feed.FeedFault.TheVariants as feeds
 use Rattle.desk_laws.specs.declared.setup.Setup.{Setup}
 use Rattle.desk_laws.specs.declared.item.Item.TheVariants as items
-use Rattle.desk_laws.specs.Items.{FedItem}
+use Rattle.desk_laws.specs.Items.{FedItem, FitsItem}
+use Rattle.desk_laws.specs.Frames.{PortState, counted}
+use Rattle.desk_laws.specs.State.{DeskState, opening, session_of}
+use Rattle.desk_laws.specs.Steps.{run}
 use Rattle.record_format.specs.RecordGrammar.{alone}
 use Rattle.replay_driver.specs.declared.outcome.Outcome.{Outcome}
 use Rattle.replay_driver.specs.declared.outcome.Outcome.TheVariants as outcomes
@@ -43,9 +46,31 @@ abbrev pub after_feed : FeedFault → Outcome
 after_feed feeds.Failed = outcomes.ReadFault
 after_feed (feeds.Bad f) = outcomes.BadRecord f
 
--- What a run over a feed did: what led from the feed before to the feed after, and what the outcome says of it.
-pub record RanOver {F : Type 0} (gives : F → Answer → F → Type 0) (setup : Setup) (bound : ℕ) (a b : F) (outcome : Outcome) (before after : Option (List ℕ)) : Type 0 where
+-- how many items were given once a call gave this
+abbrev pub given_by : Answer → ℕ → ℕ
+given_by (Ok item) given = counted (given + 1)
+given_by (Err fault) given = given
+
+-- One call of a feed: what the feed's own relation says, that the answer is what came next, and the count of items given.
+pub record FeedCall {F : Type 0} (gives : F → Answer → F → Type 0) (left : F → Option Coming) (count : F → ℕ) (a : F) (answer : Answer) (b : F) : Type 0 where
+  pub gave : gives a answer b
+  pub next : Told (left a) (λ coming. ComesNext coming answer (left b))
+  pub counts : count b ≡ given_by answer (count a)
+
+-- each of these items is in its ranges, with a piece that it may have
+abbrev pub AllFit : Setup → List FedItem → Type 0
+AllFit setup given = All (λ g. FitsItem (length setup.guests) setup.pages g.item (length g.piece)) given
+
+-- the frames of each guest are those of its session in this state
+abbrev pub AreFramesOf : Setup → DeskState → (ℕ → PortState) → Type 0
+AreFramesOf setup state frames = (guest : ℕ) → guest < length setup.guests → frames guest ≡ (session_of guest state).port
+
+-- What a run over a feed did: what led from the feed before to the feed after, that all that was given fits, what the
+-- outcome says of it, and that the frames are those after stepping all of it, and nothing more.
+pub record RanOver {F : Type 0} (call : F → Answer → F → Type 0) (setup : Setup) (bound : ℕ) (a b : F) (outcome : Outcome) (frames : ℕ → PortState) (before after : Option (List ℕ)) : Type 0 where
   pub given : List FedItem
   pub last : Option FeedFault
-  pub fed : Fed gives a given last b
+  pub fed : Fed call a given last b
+  pub fits : AllFit setup given
   pub ran : Ran setup bound given last outcome before after
+  pub frames_left : AreFramesOf setup (run setup given (opening setup)).desk frames

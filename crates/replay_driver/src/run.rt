@@ -3,7 +3,7 @@ ghost use Rattle.std.specs.Prelude.{◌≡◌, ◌≤◌, ◌*◌, length, vec_l
 ghost use Rattle.io_ports.specs.Counts.{Rose};
 ghost use Rattle.desk_laws.specs.Rules.{first_broken, Fits};
 ghost use Rattle.desk_laws.specs.State.{opening};
-ghost use Rattle.replay_driver.specs.FeedOutcomes.{RanOver, after_feed};
+ghost use Rattle.replay_driver.specs.FeedOutcomes.{FeedCall, RanOver, after_feed};
 ghost use Rattle.frame_pool.specs.Ports.{AreZeros};
 ghost use Rattle.desk_core.specs.DeskView.{picture_of};
 ghost use Rattle.desk_core.specs.DeskStands.{Stands};
@@ -91,7 +91,9 @@ fn run_items<F: Feed, P: FramePort, K: Sink>(
     requires port_guests { P.guests port.old ≡ length setup.now.guests }
     requires port_pages { P.pages port.old ≡ setup.now.pages }
     requires some { 1 ≤ bounds.items }
-    ensures ran { RanOver F.gives setup.now bounds.items feed.old feed.new result (K.written out.old) (K.written out.new) }
+    ensures ran { RanOver (FeedCall F.gives F.left F.given) setup.now bounds.items feed.old feed.new result (P.state port.new) (K.written out.old) (K.written out.new) }
+    ensures port_guests { P.guests port.new ≡ P.guests port.old }
+    ensures port_pages { P.pages port.new ≡ P.pages port.old }
     ensures keeps { K.keeps out.old out.new }
     ensures read_later { F.faults feed.old ≤ F.faults feed.new }
     ensures read { result ≡ Outcome.ReadFault → Rose (F.faults feed.old) (F.faults feed.new) }
@@ -138,7 +140,9 @@ pub fn desk_run<F: Feed, P: FramePort, K: Sink>(
     requires port_pages { P.pages port.old ≡ setup.now.pages }
     requires zeros { AreZeros (P.guests port.old) (P.pages port.old) (P.state port.old) }
     requires some { 1 ≤ bounds.items }
-    ensures ran { RanOver F.gives setup.now bounds.items feed.old feed.new result (K.written out.old) (K.written out.new) }
+    ensures ran { RanOver (FeedCall F.gives F.left F.given) setup.now bounds.items feed.old feed.new result (P.state port.new) (K.written out.old) (K.written out.new) }
+    ensures port_guests { P.guests port.new ≡ P.guests port.old }
+    ensures port_pages { P.pages port.new ≡ P.pages port.old }
     ensures keeps { K.keeps out.old out.new }
     ensures read_later { F.faults feed.old ≤ F.faults feed.new }
     ensures read { result ≡ Outcome.ReadFault → Rose (F.faults feed.old) (F.faults feed.new) }

@@ -1,10 +1,11 @@
 use Rattle.std.proofs.Common.{◌≡◌, ◌≤◌, ◌*◌, length}
+use Rattle.replay_driver.specs.FeedOutcomes.{FeedCall}
 use Rattle.replay_driver.proofs.RunLemmas.{SoFar}
 use Rattle.replay_driver.proofs.run.run_items.Given as goal
 
 abbrev pub invariant-loop-n : goal.invariant-loop-n
 invariant-loop-n g l = record {
-  so_far : SoFar g.F.Feed.gives l.setup l._n l.fn.feed l.feed l.desk (g.P.FramePort.state l.port) (g.K.Sink.written l.fn.out) (g.K.Sink.written l.out);
+  so_far : SoFar (FeedCall g.F.Feed.gives g.F.Feed.left g.F.Feed.given) l.setup l._n l.fn.feed l.feed l.desk (g.P.FramePort.state l.port) (g.K.Sink.written l.fn.out) (g.K.Sink.written l.out);
   line : length l.line ≡ 3 * l.setup.width;
   room : length l.room ≡ 65536;
   guests : g.F.Feed.guests l.feed ≡ length l.setup.guests;
