@@ -1,4 +1,4 @@
--- Sessions that end, each for one cause, worked by hand from the definitions' words, which the definitions have to give.
+-- Hand-computed ends of sessions, one for each cause, which the definitions have to give.
 use Rattle.std.specs.Prelude.{ℕ, ◌≡◌, ◌^◌, List, [], ◌∷◌, ◌++◌}
 use Rattle.gui_wire.specs.Words.{words}
 use Rattle.gui_wire.specs.AgentMessages as agent

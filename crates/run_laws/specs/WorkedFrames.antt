@@ -1,4 +1,4 @@
--- Small runs with frames worked by hand from the definitions' words, which the definitions have to give.
+-- Small hand-computed runs with frames, which the definitions have to give.
 use Rattle.std.specs.Prelude.{ℕ, ◌≡◌, ◌^◌, List, [], ◌∷◌, ◌++◌, map, replicate, Option, Some, None}
 use Rattle.gui_wire.specs.Words.{words}
 use Rattle.gui_wire.specs.AgentMessages as agent

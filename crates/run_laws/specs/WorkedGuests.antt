@@ -1,5 +1,5 @@
--- Small runs of several guests, and of override and full-screen windows, worked by hand from the definitions' words,
--- which the definitions have to give.
+-- Small hand-computed runs of several guests, and of override and full-screen windows, which the definitions have to
+-- give.
 use Rattle.std.specs.Prelude.{ℕ, ◌≡◌, ◌^◌, ◌-◌, Bool, true, false, List, [], ◌∷◌, ◌++◌, map, replicate, pos}
 use Rattle.gui_wire.specs.Words.{words}
 use Rattle.gui_wire.specs.AgentMessages as agent

@@ -1,5 +1,4 @@
--- What single messages leave of a window, worked by hand from the definitions' words, which the definitions have to
--- give.
+-- What single messages leave of a window, hand-computed; the definitions have to give it.
 use Rattle.std.specs.Prelude.{ℕ, ◌≡◌, ◌^◌, ◌-◌, true, false, List, [], ◌∷◌, ◌++◌, map, replicate, Some, None, pos, negsuc}
 use Rattle.gui_wire.specs.AgentMessages as agent
 use Rattle.gui_wire.specs.AgentMessages.{AgentMessage, spelling}

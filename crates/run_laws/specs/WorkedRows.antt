@@ -1,4 +1,4 @@
--- Small runs worked by hand from the definitions' words, which the definitions have to give.
+-- Small hand-computed runs, which the definitions have to give.
 use Rattle.std.specs.Prelude.{ℕ, ◌≡◌, ◌^◌, ◌-◌, List, [], ◌∷◌, ◌++◌, replicate}
 use Rattle.gui_wire.specs.Words.{words}
 use Rattle.gui_wire.specs.AgentMessages as agent

@@ -1,4 +1,4 @@
--- Small streams of one guest worked by hand from the definitions' words, which the definitions have to give.
+-- Small hand-computed streams of one guest, which the definitions have to give.
 use Rattle.std.specs.Prelude.{ℕ, ◌≡◌, ◌^◌, List, [], ◌∷◌, ◌++◌, map}
 use Rattle.gui_wire.specs.Words.{words}
 use Rattle.gui_wire.specs.AgentMessages as agent

@@ -1,4 +1,4 @@
-//! Laws over whole runs of the definitions, and small runs worked by hand that the definitions have to
+//! Laws over whole runs of the definitions, and small hand-computed runs that the definitions have to
 //! give. The calls do nothing: what is known stands in their contracts, and no other crate needs it.
 #![tactic(auto)]
 

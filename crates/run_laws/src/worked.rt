@@ -6,7 +6,7 @@ ghost use Rattle.run_laws.specs.WorkedGuests.{TwoWindows, OneGuestEnds, Override
 ghost use Rattle.run_laws.specs.WorkedMessages.{Unmapped, UnmappedTwice, NamesKept, Destroyed, UnknownNames, TitleCut, TitleWhole, ClassAndName, HintsKept, Docked, CursorKept, SetAfterUnset, ThreeFlags, DumpKept, BroughtIntoRange};
 ghost use Rattle.run_laws.specs.WorkedCauses.{LinkLost, TypeNotTaken, LengthOfDestroy, LengthOfDump, OneReferenceMore, NoSuchWindow, RangeBeforeWindow, ClipboardOfNoWindow, NotCreated, DumpOutOfRange, FivePagesOfFour, ReferenceBeforeBudget, VersionTold};
 
-/// The definitions give the small runs that were worked by hand. It does nothing.
+/// The definitions give these hand-computed runs. It does nothing.
 pub fn worked_rows()
     ensures empty_desktop { EmptyDesktop }
     ensures one_window { OneWindow }
@@ -14,7 +14,7 @@ pub fn worked_rows()
     ensures window_created_twice { WindowCreatedTwice }
 {}
 
-/// The definitions give the small streams that were worked by hand. It does nothing.
+/// The definitions give these hand-computed streams of one guest. It does nothing.
 pub fn worked_streams()
     ensures one_byte_at_a_time { OneByteAtATime }
     ensures width_out_of_range { WidthOutOfRange }
@@ -29,7 +29,7 @@ pub fn worked_streams()
     ensures window_limit { WindowLimit }
 {}
 
-/// The definitions give the small runs with frames that were worked by hand. It does nothing.
+/// The definitions give these hand-computed runs with frames. It does nothing.
 pub fn worked_frames()
     ensures frame_changes_between_loads { FrameChangesBetweenLoads }
     ensures loaded_once { LoadedOnce }
@@ -41,8 +41,8 @@ pub fn worked_frames()
     ensures too_few_tiles { TooFewTiles }
 {}
 
-/// The definitions give the small runs of several guests, and of override and full-screen windows,
-/// that were worked by hand. It does nothing.
+/// The definitions give these hand-computed runs of several guests, and of override and full-screen
+/// windows. It does nothing.
 pub fn worked_guests()
     ensures two_windows { TwoWindows }
     ensures one_guest_ends { OneGuestEnds }
@@ -54,8 +54,7 @@ pub fn worked_guests()
     ensures minimized_is_hidden { MinimizedIsHidden }
 {}
 
-/// The definitions give what single messages leave of a window, as it was worked by hand. It does
-/// nothing.
+/// The definitions give what single messages leave of a window, hand-computed. It does nothing.
 pub fn worked_messages()
     ensures unmapped { Unmapped }
     ensures unmapped_twice { UnmappedTwice }
@@ -74,8 +73,7 @@ pub fn worked_messages()
     ensures brought_into_range { BroughtIntoRange }
 {}
 
-/// The definitions give the ends of sessions, one for each cause, that were worked by hand. It does
-/// nothing.
+/// The definitions give these hand-computed ends of sessions, one for each cause. It does nothing.
 pub fn worked_causes()
     ensures link_lost { LinkLost }
     ensures type_not_taken { TypeNotTaken }
