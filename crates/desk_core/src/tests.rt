@@ -1,29 +1,14 @@
-// Desks in memory, with what they have to show and to count worked by hand.
-ghost use Rattle.std.specs.Prelude.{◌≡◌, length, IfOk};
-ghost use Rattle.desk_laws.specs.Items.{IsPiece};
+// A desk in memory, with a hand-computed picture and counts. How guests go with each other is told by the
+// tests of the program.
+ghost use Rattle.std.specs.Prelude.{◌≡◌, ◌≤◌, ◌+◌, length, IfOk};
 
 use super::*;
-use desk_laws::{Cause, GuestSetup, Guests, Item, Name, Setup};
+use desk_laws::{GuestSetup, Guests, Item, Name, Setup};
 use frame_pool::TapePort;
-use gui_num::Colour;
+use gui_num::{Colour, NoMemory};
 use io_ports::PostList;
 use std::alloc::Global;
 use std::test::Fail;
-
-// The version 1.7, CREATE of window 1 at (1, 1), 2 by 2, and MAP of it.
-const RED_BYTES: [u8; 60] = [
-    7, 0, 1, 0, 130, 0, 0, 0, 1, 0, 0, 0, 24, 0, 0, 0, 1, 0, 0, 0, 1, 0, 0, 0, 2, 0, 0, 0, 2, 0, 0,
-    0, 0, 0, 0, 0, 0, 0, 0, 0, 132, 0, 0, 0, 1, 0, 0, 0, 8, 0, 0, 0, 0, 0, 0, 0, 0, 0, 0, 0,
-];
-
-// The same with window 1 at (5, 1).
-const GREEN_BYTES: [u8; 60] = [
-    7, 0, 1, 0, 130, 0, 0, 0, 1, 0, 0, 0, 24, 0, 0, 0, 5, 0, 0, 0, 1, 0, 0, 0, 2, 0, 0, 0, 2, 0, 0,
-    0, 0, 0, 0, 0, 0, 0, 0, 0, 132, 0, 0, 0, 1, 0, 0, 0, 8, 0, 0, 0, 0, 0, 0, 0, 0, 0, 0, 0,
-];
-
-// A message of the type 1, which there isn't.
-const UNKNOWN_BYTES: [u8; 12] = [1, 0, 0, 0, 1, 0, 0, 0, 0, 0, 0, 0];
 
 // The version 1.7, CREATE of window 1 at (2, 2), 3 by 1, MAP of it, its dump into page 0, and SHMIMAGE of
 // all its pixels.
@@ -34,19 +19,37 @@ const READ_BYTES: [u8; 120] = [
     136, 0, 0, 0, 1, 0, 0, 0, 16, 0, 0, 0, 0, 0, 0, 0, 0, 0, 0, 0, 3, 0, 0, 0, 1, 0, 0, 0,
 ];
 
-// A black desktop of 8 by 6 pixels, borders of one pixel, and the guests `red` and `green`.
+// A guest with this label colour and name.
+fn guest(colour: u32, name: &[u8]) -> GuestSetup
+    requires { length name.now ≤ 255 }
+{
+    GuestSetup {
+        colour: Colour(colour),
+        name: Name::new(name),
+    }
+}
+
+// These guests and one more.
+fn with(mut guests: Guests, guest: GuestSetup) -> Result<Guests, NoMemory>
+    ensures { IfOk result (λ all. length all ≡ length guests + 1) }
+{
+    guests.push(guest)?;
+    Ok(guests)
+}
+
+// The guests `red` and `green`.
+fn red_and_green(alloc: Global) -> Result<Guests, NoMemory>
+    ensures { IfOk result (λ guests. length guests ≡ 2) }
+{
+    let red = with(Guests::new(alloc), guest(0xff0000, b"red"))?;
+    with(red, guest(0x00ff00, b"green"))
+}
+
+// A black desktop of 8 by 6 pixels with borders of one pixel.
 fn setup(alloc: Global) -> Result<Setup, Fail>
     ensures { IfOk result (λ s. length s.guests ≡ 2) }
 {
-    let mut guests = Guests::new(alloc);
-    guests.push(GuestSetup {
-        colour: Colour(0xff0000),
-        name: Name::new(b"red"),
-    })?;
-    guests.push(GuestSetup {
-        colour: Colour(0x00ff00),
-        name: Name::new(b"green"),
-    })?;
+    let guests = red_and_green(alloc)?;
     Ok(Setup {
         width: 8,
         height: 6,
@@ -59,59 +62,7 @@ fn setup(alloc: Global) -> Result<Setup, Fail>
     })
 }
 
-// A row of the picture: `.` is black, `R` red, `G` green, `-` grey.
-fn shows(picture: &Picture, y: u32, row: &[u8]) -> bool {
-    if y >= picture.height() {
-        return false;
-    }
-    let colours = picture.row(y);
-    let mut same = colours.len() == row.len();
-    for (x, colour) in colours.iter().enumerate() {
-        let wanted = match row.get(x) {
-            Some(b'R') => 0xff0000,
-            Some(b'G') => 0x00ff00,
-            Some(b'-') => 0x808080,
-            _ => 0,
-        };
-        same &= *colour == wanted;
-    }
-    same
-}
-
-// A guest's malformed message ends its session alone: its window goes, that of the other guest, which
-// has the same number, stays, and the other guest is told nothing of it.
-#[test]
-fn one_of_two_guests_ends(rt: HostRuntime) -> Result<(), Fail> {
-    let setup = setup(rt.alloc())?;
-    assert!(rt; setup.first_broken().is_none());
-    let mut desk = Desk::open(rt.alloc(), &setup)?;
-    let mut port = TapePort::new(rt.alloc(), 2, setup.pages)?;
-    let mut posts = PostList::new(rt.alloc());
-    let red = Item::Bytes { guest: 0 };
-    let green = Item::Bytes { guest: 1 };
-    desk.step(&red, &RED_BYTES, &mut port, &mut posts);
-    desk.step(&green, &GREEN_BYTES, &mut port, &mut posts);
-    desk.step(&red, &UNKNOWN_BYTES, &mut port, &mut posts);
-    assert_eq!(rt;
-        desk.step(&Item::Snap, &[], &mut port, &mut posts),
-        Stepped::Snap
-    );
-    assert!(rt; shows(desk.picture(), 0, b"....GGGG"));
-    assert!(rt; shows(desk.picture(), 1, b"....G--G"));
-    assert!(rt; shows(desk.picture(), 4, b"........"));
-    let told = Cause::BadType { a: 1, b: 0 };
-    assert_eq!(rt; posts.ended_at(4), Some((0, told)));
-    assert!(rt; posts.reply_at(5).is_none() && posts.ended_at(5).is_none());
-    let summary = Summary {
-        items: 4,
-        messages: 4,
-        glances: 0,
-        painted: 48,
-    };
-    assert_eq!(rt; desk.summary(), summary);
-    Ok(())
-}
-
+// A window of the second of two guests, with the pixels that were read of it.
 #[test]
 fn readings_on_the_picture(rt: HostRuntime) -> Result<(), Fail> {
     let setup = setup(rt.alloc())?;
