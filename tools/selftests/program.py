@@ -1,0 +1,147 @@
+"""Runs the built program from outside: each status that can be brought about, and what it takes of memory.
+
+The wanted bytes are hand-computed (see aids). A status is a number and a line on standard error."""
+import os
+import shutil
+import subprocess
+import tempfile
+import unittest
+
+from formats import record_text
+from selftests.aids import DESK, EMPTY_DESK, EMPTY_OUTPUT, EXAMPLES, TOOLS
+
+# Set by tools/selftest.
+PROGRAM = ""
+
+SECONDS = 60
+# A desk whose pictures are far longer than the program's buffers: 480,000 bytes each.
+WIDE_DESK = record_text.record_of("config width=400 height=400 border=1 pages=4 tiles=4\nguest red ff0000\nsnap\nsnap\nend\n")
+
+
+def replay(record, *words, stdin=None, **more):
+    """Runs the program over a record, with the one word `replay` where no words are named."""
+    with tempfile.TemporaryFile() as file:
+        file.write(record)
+        file.seek(0)
+        how = {"stdout": subprocess.PIPE, "stderr": subprocess.PIPE, "timeout": SECONDS, **more}
+        return subprocess.run([PROGRAM, *(words or ("replay",))], stdin=file if stdin is None else stdin, **how)
+
+
+def closing(number):
+    """What closes a standard stream before the program begins."""
+    return lambda: os.close(number)
+
+
+class Statuses(unittest.TestCase):
+    def ends(self, ran, number, line, written=b""):
+        told = line.encode() + b"\n" if line else b""
+        self.assertEqual((ran.returncode, ran.stderr), (number, told))
+        self.assertEqual(ran.stdout, written)
+
+    def test_done(self):
+        self.ends(replay(EMPTY_DESK), 0, "", EMPTY_OUTPUT)
+
+    def test_what_stands_behind_end_is_not_looked_at(self):
+        self.ends(replay(EMPTY_DESK + b"\xff\x01"), 0, "", EMPTY_OUTPUT)
+
+    def test_usage(self):
+        for words in (("play",), ("replay", "x"), ("replay", "replay"), ("",), ("replay ",)):
+            self.ends(replay(EMPTY_DESK, *words), 2, "usage: guid replay")
+        with tempfile.TemporaryFile() as file:
+            file.write(EMPTY_DESK)
+            file.seek(0)
+            ran = subprocess.run([PROGRAM], stdin=file, capture_output=True, timeout=SECONDS)
+            self.ends(ran, 2, "usage: guid replay")
+            self.assertEqual(os.lseek(file.fileno(), 0, os.SEEK_CUR), 0, "input was read")
+
+    def test_bad_configuration(self):
+        for at, byte, rule in ((33, 0, 1), (33, 17, 1), (5, 0, 2), (9, 0, 3), (13, 17, 5), (25, 91, 8), (39, 70, 12)):
+            record = bytearray(EMPTY_DESK)
+            record[at] = byte
+            if rule == 8:
+                record[26] = 0
+            self.ends(replay(bytes(record)), 3, f"bad configuration: rule {rule}")
+
+    def test_bad_record(self):
+        picture = EMPTY_OUTPUT[:160]
+        for record, offset, kind, written in (
+            (b"", 0, "short", b""),
+            (b"QGR", 0, "short", b""),
+            (b"QGR2" + EMPTY_DESK[4:], 0, "magic", b""),
+            (EMPTY_DESK[:4] + b"\2", 4, "kind", b""),
+            (EMPTY_DESK[:43], 43, "short", picture),
+            (EMPTY_DESK[:43] + b"\xff", 43, "kind", picture),
+            (EMPTY_DESK[:43] + b"\1", 43, "kind", picture),
+            (EMPTY_DESK[:43] + b"\2\1\1\0\0\0a", 43, "range", picture),
+            (EMPTY_DESK[:43] + b"\2\0\2\0\0\0a", 43, "short", picture),
+        ):
+            self.ends(replay(record), 4, f"bad record at {offset}: {kind}", written)
+
+    def test_read_fault(self):
+        folder = os.open(TOOLS, os.O_RDONLY)
+        try:
+            self.ends(replay(b"", stdin=folder), 5, "read fault")
+        finally:
+            os.close(folder)
+
+    def test_write_fault(self):
+        for record in (EMPTY_DESK, WIDE_DESK):
+            with open("/dev/full", "wb") as full:
+                ran = replay(record, stdout=full)
+            self.assertEqual((ran.returncode, ran.stderr), (6, b"write fault\n"))
+            ran = replay(record, stdout=None, preexec_fn=closing(1))
+            self.assertEqual((ran.returncode, ran.stderr), (6, b"write fault\n"))
+
+    def test_a_write_fault_outdoes_what_was_found_in_the_record(self):
+        with open("/dev/full", "wb") as full:
+            ran = replay(EMPTY_DESK[:43], stdout=full)
+        self.assertEqual((ran.returncode, ran.stderr), (6, b"write fault\n"))
+
+    def test_the_number_stands_where_the_line_cannot_be_written(self):
+        for record, words, number in (
+            (EMPTY_DESK, ("play",), 2),
+            (EMPTY_DESK[:13] + b"\x11" + EMPTY_DESK[14:], ("replay",), 3),
+            (EMPTY_DESK[:43], ("replay",), 4),
+        ):
+            with open("/dev/full", "wb") as full:
+                self.assertEqual(replay(record, *words, stderr=full).returncode, number)
+            self.assertEqual(replay(record, *words, stderr=None, preexec_fn=closing(2)).returncode, number)
+
+
+class Memory(unittest.TestCase):
+    """How often the program asks for memory, and what it does where it gets none."""
+
+    @classmethod
+    def setUpClass(cls):
+        cls.folder = tempfile.mkdtemp()
+        cls.counter = os.path.join(cls.folder, "alloc.so")
+        source = os.path.join(TOOLS, "alloc.c")
+        subprocess.run(["cc", "-shared", "-fPIC", "-O1", "-o", cls.counter, source, "-ldl"], check=True)
+
+    @classmethod
+    def tearDownClass(cls):
+        shutil.rmtree(cls.folder)
+
+    def counted(self, record):
+        ran = replay(record, env={"LD_PRELOAD": self.counter, "SHOW": "1"})
+        self.assertEqual(ran.returncode, 0)
+        last = ran.stderr.decode().splitlines()[-1].split()
+        self.assertEqual(last[0], "allocations")
+        return int(last[1])
+
+    def test_no_step_takes_memory(self):
+        with open(os.path.join(EXAMPLES, "contents.txt"), encoding="utf-8") as file:
+            text = file.read().splitlines()
+        end = max(at for at, line in enumerate(text) if line.strip() == "end")
+        short = [*text[: min(at for at, line in enumerate(text) if line.startswith("guest ")) + 1], "end"]
+        longer = [*text[:end], *["snap"] * 50, "end"]
+        counts = {self.counted(record_text.record_of("\n".join(it) + "\n")) for it in (short, text, longer)}
+        self.assertEqual(len(counts), 1, counts)
+
+    def test_each_allocation_refused_once(self):
+        record = record_text.record_of(DESK + "bytes 0 version 1.7; create 1 x=2 y=2 width=2 height=2; map 1\nsnap\nend\n")
+        whole = replay(record).stdout
+        for number in range(1, self.counted(record) + 1):
+            ran = replay(record, env={"LD_PRELOAD": self.counter, "FAIL_AT": str(number)})
+            if (ran.returncode, ran.stderr, ran.stdout) != (0, b"", whole):
+                self.assertEqual((ran.returncode, ran.stderr, ran.stdout), (7, b"out of memory\n", b""), number)
