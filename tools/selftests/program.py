@@ -8,12 +8,14 @@ import tempfile
 import unittest
 
 from formats import record_text
-from selftests.aids import DESK, EMPTY_DESK, EMPTY_OUTPUT, EXAMPLES, TOOLS
+from selftests.aids import EMPTY_DESK as USUAL_DESK, EMPTY_OUTPUT, EXAMPLES, TOOLS
 
 # Set by tools/selftest.
 PROGRAM = ""
 
 SECONDS = 60
+# The empty desk with a page and a tile in place of the usual thousands, all of which a run writes to at opening.
+EMPTY_DESK = USUAL_DESK[:17] + bytes.fromhex("01000000 01000000") + USUAL_DESK[25:]
 # A desk whose pictures are far longer than the program's buffers: 480,000 bytes each.
 WIDE_DESK = record_text.record_of("config width=400 height=400 border=1 pages=4 tiles=4\nguest red ff0000\nsnap\nsnap\nend\n")
 
@@ -39,6 +41,7 @@ class Statuses(unittest.TestCase):
         self.assertEqual(ran.stdout, written)
 
     def test_done(self):
+        self.ends(replay(USUAL_DESK), 0, "", EMPTY_OUTPUT)
         self.ends(replay(EMPTY_DESK), 0, "", EMPTY_OUTPUT)
 
     def test_what_stands_behind_end_is_not_looked_at(self):
@@ -58,8 +61,6 @@ class Statuses(unittest.TestCase):
         for at, byte, rule in ((33, 0, 1), (33, 17, 1), (5, 0, 2), (9, 0, 3), (13, 17, 5), (25, 91, 8), (39, 70, 12)):
             record = bytearray(EMPTY_DESK)
             record[at] = byte
-            if rule == 8:
-                record[26] = 0
             self.ends(replay(bytes(record)), 3, f"bad configuration: rule {rule}")
 
     def test_bad_record(self):
@@ -139,7 +140,8 @@ class Memory(unittest.TestCase):
         self.assertEqual(len(counts), 1, counts)
 
     def test_each_allocation_refused_once(self):
-        record = record_text.record_of(DESK + "bytes 0 version 1.7; create 1 x=2 y=2 width=2 height=2; map 1\nsnap\nend\n")
+        desk = "config width=8 height=6 border=1 pages=1 tiles=1\nguest red ff0000\n"
+        record = record_text.record_of(desk + "bytes 0 version 1.7; create 1 x=2 y=2 width=2 height=2; map 1\nsnap\nend\n")
         whole = replay(record).stdout
         for number in range(1, self.counted(record) + 1):
             ran = replay(record, env={"LD_PRELOAD": self.counter, "FAIL_AT": str(number)})
