@@ -4,7 +4,10 @@ ghost use Rattle.desk_laws.specs.Items.{IsInRange};
 ghost use Rattle.record_format.specs.ItemSpellings.{item_spelling};
 ghost use Rattle.record_format.specs.ItemFields.{HasFields};
 
-use crate::{ConfigRead, config_len, fixed_len, item_of, put_config, read_config, spell_item};
+use crate::{
+    ConfigRead, Post, config_len, fixed_len, item_of, item_within, post_of, put_config,
+    read_config, spell_item,
+};
 use desk_laws::{GuestSetup, Guests, Item, MAX_GUESTS, MAX_PAGES, Name, Setup};
 use gui_num::Colour;
 use io_ports::{MemSink, MemSource};
@@ -91,6 +94,10 @@ fn items(rt: HostRuntime) -> Result<(), Fail> {
     goes(&rt, &setup, Item::End, 0, &[10]);
     assert_eq!(rt; fixed_len(1), None);
     assert_eq!(rt; fixed_len(4), Some(15));
+    assert_eq!(rt;
+        item_within(&[3, 1], 2, 1),
+        Some((Item::Closed { guest: 1 }, 0))
+    );
     // another guest; a state above the most
     assert!(rt; item_of(&[3, 1], &setup).is_none());
     assert!(rt; item_of(&[5, 0, 38, 0, 32], &setup).is_none());
@@ -168,5 +175,31 @@ fn numbers_of_guests(rt: HostRuntime) -> Result<(), Fail> {
     assert!(rt; matches!(read_with(&rt, 0)?, Err(ConfigRead::Rule(1))));
     assert!(rt; matches!(read_with(&rt, 17)?, Err(ConfigRead::Rule(1))));
     assert!(rt; matches!(read_with(&rt, 16)?, Err(ConfigRead::Bad(_))));
+    Ok(())
+}
+
+// A reply to guest 1 of the bytes `hi`, and then a summary.
+const TWO_POSTS: [u8; 41] = [
+    1, 1, 2, 0, 0, 0, 104, 105, 4, 5, 0, 0, 0, 0, 0, 0, 0, 3, 0, 0, 0, 0, 0, 0, 0, 2, 0, 0, 0, 0,
+    0, 0, 0, 1, 0, 0, 0, 0, 0, 0, 0,
+];
+
+#[test]
+fn posts(rt: HostRuntime) -> Result<(), Fail> {
+    let bytes = &TWO_POSTS;
+    let reply = Post::Reply {
+        guest: 1,
+        bytes: b"hi",
+    };
+    assert_eq!(rt; post_of(bytes), Some((reply, 8)));
+    let summary = Post::Summary {
+        items: 5,
+        messages: 3,
+        glances: 2,
+        painted: 1,
+    };
+    assert_eq!(rt; post_of(&bytes[8..]), Some((summary, 33)));
+    assert!(rt; post_of(&bytes[..7]).is_none());
+    assert!(rt; post_of(&bytes[8..40]).is_none());
     Ok(())
 }
