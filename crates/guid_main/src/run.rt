@@ -4,7 +4,7 @@ ghost use Rattle.io_ports.specs.Content.{Told};
 ghost use Rattle.io_ports.specs.Counts.{Rose};
 ghost use Rattle.desk_laws.specs.Rules.{first_broken, Fits};
 ghost use Rattle.frame_pool.specs.Ports.{AreZeros};
-ghost use Rattle.guid_main.specs.Answers.{Says, SaysBy, IsReplay, after_config, status_of, record_behind};
+ghost use Rattle.guid_main.specs.Answers.{Says, SaysBehind, IsReplay, after_config, status_of};
 
 use crate::status::Status;
 use desk_laws::Setup;
@@ -72,7 +72,7 @@ fn replay_over<S: Source, P: FramePort, K: Sink>(
     requires port_pages { P.pages port.old ≡ setup.now.pages }
     requires zeros { AreZeros (P.guests port.old) (P.pages port.old) (P.state port.old) }
     ensures ok { IsOk result }
-    ensures says { IfOk result (λ r. Told (S.left source) (λ bytes. SaysBy (record_behind setup.now) bytes (S.left r.1) r.0 (K.written out.old) (K.written out.new))) }
+    ensures says { IfOk result (λ r. Told (S.left source) (λ bytes. SaysBehind setup.now bytes (S.left r.1) r.0 (K.written out.old) (K.written out.new))) }
     ensures keeps { IfOk result (λ r. S.keeps source r.1) }
     ensures read_later { IfOk result (λ r. S.faults source ≤ S.faults r.1) }
     ensures read { IfOk result (λ r. r.0 ≡ Status.ReadFault → Rose (S.faults source) (S.faults r.1)) }
@@ -94,7 +94,7 @@ fn replay_over<S: Source, P: FramePort, K: Sink>(
 fn replay<S: Source, K: Sink>(alloc: Global, setup: &Setup, input: &mut S, out: &mut K) -> Status
     requires sound { first_broken setup.now ≡ None }
     requires fits { Fits setup.now }
-    ensures says { Told (S.left input.old) (λ bytes. SaysBy (record_behind setup.now) bytes (S.left input.new) result (K.written out.old) (K.written out.new)) }
+    ensures says { Told (S.left input.old) (λ bytes. SaysBehind setup.now bytes (S.left input.new) result (K.written out.old) (K.written out.new)) }
     ensures read_later { S.faults input.old ≤ S.faults input.new }
     ensures read { result ≡ Status.ReadFault → Rose (S.faults input.old) (S.faults input.new) }
     ensures write_later { K.faults out.old ≤ K.faults out.new }

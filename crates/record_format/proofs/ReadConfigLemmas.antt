@@ -1,18 +1,19 @@
 -- What is read of a setup was spelled.
-use Rattle.std.proofs.Common.{◌≡◌, ℕ, zero, suc, ◌≤◌, List, [], ◌∷◌, ◌++◌, length, take, drop, Bool, true, false, Option, None, Some, Result, Ok, Err, refl, sym, ap, ◌∙◌, subst, arith, append_assoc, length-take}
+use Rattle.std.proofs.Common.{◌≡◌, ℕ, zero, suc, ◌+◌, ◌≤◌, List, [], ◌∷◌, ◌++◌, length, take, drop, Bool, true, false, Option, None, Some, Result, Ok, Err, refl, sym, ap, ◌∙◌, subst, arith, append_assoc, length-append, length-take, length-drop}
 use Rattle.std.proofs.lemmas.Bool.Decides.{nat_tests}
 use Rattle.std.proofs.lemmas.Slice.Eq.{bytes_eq-Decides}
 use Rattle.std.proofs.lemmas.List.{take-append-drop, drop_all}
 use Rattle.std.specs.Prelude.{slice_index, nat_lt, not, ◌==◌, if◌then◌else◌}
 use Rattle.std.specs.Str.{bytes_eq}
-use Rattle.std.specs.List.{flat_map}
+use Rattle.std.specs.List.{flat_map, sum_by}
+use Rattle.std.proofs.lemmas.List.Sums.{sum_by-cons}
 use Rattle.io_ports.specs.declared.feed.RecordKind.TheVariants as kinds
 use Rattle.gui_wire.specs.Words.{word}
 use Rattle.gui_wire.proofs.WordLemmas.{AreBytes, AreBytes-take, AreBytes-drop}
 use Rattle.desk_laws.specs.declared.setup.GuestSetup.{GuestSetup}
 use Rattle.desk_laws.specs.declared.setup.Setup.{Setup}
 use Rattle.desk_laws.specs.Rules.{within, first_broken}
-use Rattle.record_format.specs.Config.{Wrong, Fault, Rule, fault, magic, number_at, named, name_of, guest_of, guests_of, with_guests, ◌>>=◌, head_wrong, setup_at, kept, behind_head, config_of, guest_spelling, head_spelling, config_spelling}
+use Rattle.record_format.specs.Config.{Wrong, Fault, Rule, fault, magic, number_at, named, name_of, guest_of, guests_of, with_guests, ◌>>=◌, head_wrong, setup_at, kept, behind_head, config_of, config_len, guest_spelling, head_spelling, config_spelling}
 use Rattle.record_format.proofs.FieldLemmas.{byte_on, word_on}
 
 -- of a reading and then another nothing but both is right
@@ -168,3 +169,41 @@ config_was bytes setup rest h is =
           ∙ sym (append_assoc (head_spelling setup) (flat_map guest_spelling setup.guests) rest),
       was.4,
     )
+
+-- ---- how many bytes a setup takes, whatever bytes they are
+
+guest_takes : (bytes : List ℕ) (g : GuestSetup) (rest : List ℕ) → guest_of bytes ≡ Ok (g, rest) → length bytes ≡ (5 + length g.name) + length rest
+guest_takes bytes g rest is =
+    let found = else_was (nat_lt (length bytes) 5) (Fault (fault 4 kinds.Short)) (named (number_at 0 (take 5 bytes)) (name_of (slice_index (take 5 bytes) 4) (drop 5 bytes))) (g, rest) is in
+    let long = enough (length bytes) 5 found.0 in
+    let guest = named_was (number_at 0 (take 5 bytes)) (name_of (slice_index (take 5 bytes) 4) (drop 5 bytes)) g rest found.1 in
+    let name = name_was (slice_index (take 5 bytes) 4) (drop 5 bytes) g.name rest guest.0 in
+    let behind : length (drop 5 bytes) ≡ length g.name + length rest = ap length name.0 ∙ length-append g.name rest in
+    omega (arith, behind, long, length-drop 5 bytes)
+
+guests_take : (n : ℕ) (bytes : List ℕ) (guests : List GuestSetup) (rest : List ℕ) → guests_of n bytes ≡ Ok (guests, rest)
+    → length bytes ≡ sum_by (λ g. 5 + length g.name) guests + length rest
+guests_take zero bytes guests rest is =
+    let same : ◌≡◌ {A = List GuestSetup × List ℕ} ([], bytes) (guests, rest) = cc in
+    let none : [] ≡ guests = ap (λ (p : List GuestSetup × List ℕ). p.0) same in
+    let front : 0 ≡ sum_by (λ g. 5 + length g.name) guests = ap (λ (l : List GuestSetup). sum_by (λ g. 5 + length g.name) l) none in
+    let all : length bytes ≡ length rest = ap (λ (p : List GuestSetup × List ℕ). length (p.1)) same in
+    omega (arith, front, all)
+guests_take (suc n) bytes guests rest is =
+    let bound = bind_was (guest_of bytes) (λ one. with_guests (one.0 ∷ []) (guests_of n one.1)) (guests, rest) is in
+    let one = bound.0 in
+    let others = with_was (one.0 ∷ []) guests (guests_of n one.1) rest bound.2 in
+    let first : length bytes ≡ (5 + length one.0.name) + length one.1 = guest_takes bytes one.0 one.1 bound.1 in
+    let behind : length one.1 ≡ sum_by (λ g. 5 + length g.name) others.0 + length rest = guests_take n one.1 others.0 rest others.1 in
+    let all : sum_by (λ g. 5 + length g.name) guests ≡ (5 + length one.0.name) + sum_by (λ g. 5 + length g.name) others.0 =
+    ap (sum_by (λ (g : GuestSetup). 5 + length g.name)) others.2 ∙ sum_by-cons (λ (g : GuestSetup). 5 + length g.name) one.0 others.0 in
+    omega (arith, first, behind, all)
+
+-- a setup that is read leaves all but as many bytes as it takes
+pub config_takes : (bytes : List ℕ) (setup : Setup) (rest : List ℕ) → config_of bytes ≡ Ok (setup, rest) → length bytes ≡ config_len setup + length rest
+config_takes bytes setup rest is =
+    let was = behind_was (take 34 bytes) (drop 34 bytes) (head_wrong (take 34 bytes)) setup rest is in
+    let right = head_was (take 34 bytes) was.0 in
+    let behind : length (drop 34 bytes) ≡ sum_by (λ g. 5 + length g.name) was.1 + length rest = guests_take (slice_index (take 34 bytes) 33) (drop 34 bytes) was.1 rest was.2 in
+    let same : sum_by (λ g. 5 + length g.name) was.1 ≡ sum_by (λ g. 5 + length g.name) setup.guests = ap (λ (s : Setup). sum_by (λ g. 5 + length g.name) s.guests) was.3 in
+    omega (arith, behind, same, right.long, length-take 34 bytes, length-drop 34 bytes)
