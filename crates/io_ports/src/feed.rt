@@ -2,6 +2,7 @@
 ghost use Rattle.std.specs.Prelude.{◌≡◌, ◌≤◌, ℕ, length, Option, IfOk, IsErrOf};
 ghost use Rattle.desk_laws.specs.Items.{FitsItem};
 ghost use Rattle.desk_laws.specs.Frames.{counted};
+ghost use Rattle.desk_laws.specs.declared.limits.TheConstants.{MAX_PIECE};
 ghost use Rattle.io_ports.specs.Content.{Told};
 ghost use Rattle.io_ports.specs.Counts.{Rose};
 ghost use Rattle.io_ports.specs.Feeds.{Answer, Coming, ComesNext, answer_of, given_after};
@@ -69,13 +70,13 @@ pub trait Feed {
     ghost gives: { Self → Answer → Self → Type 0 };
 
     /// Gives the next item, and puts the bytes that come with it into the front of the room, which
-    /// has at least 65,536 bytes. The item is in range for the feed's guests and pages. Only Bytes
+    /// has at least `MAX_PIECE` bytes. The item is in range for the feed's guests and pages. Only Bytes
     /// and Store come with bytes. Where no item is left and the items end well it gives End.
     ///
     /// Failed only where the count of faults rose. Bad exactly where no item is left and the items
     /// end in this fault; it stays so.
     fn next(&mut self, room: &mut [u8]) -> Result<Next, FeedFault>
-        requires room { 65536 ≤ length room.old }
+        requires room { MAX_PIECE ≤ length room.old }
         ensures gives { gives self.old (answer_of result room.new) self.new }
         ensures range { IfOk result (λ n. FitsItem (guests self.old) (pages self.old) n.item n.len) }
         ensures coming { Told (left self.old) (λ coming. ComesNext coming (answer_of result room.new) (left self.new)) }

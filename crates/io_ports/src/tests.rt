@@ -5,7 +5,7 @@ ghost use Rattle.io_ports.specs.Memory.{told_of};
 
 use crate::kept::KeptBytes;
 use crate::*;
-use desk_laws::{Cause, Item};
+use desk_laws::{Cause, Item, MAX_PIECE};
 use std::io::{self, Write};
 use std::test::Fail;
 
@@ -74,7 +74,7 @@ impl Feed for EndedFeed {
 }
 
 fn next_of<F: Feed>(feed: &mut F, room: &mut [u8]) -> Option<Result<Next, FeedFault>> {
-    if room.len() < 65536 {
+    if room.len() < MAX_PIECE as usize {
         return None;
     }
     Some(feed.next(room))
@@ -187,7 +187,7 @@ fn posts_are_kept(rt: HostRuntime) -> Result<(), Fail> {
 
 #[test]
 fn ended_feed_gives_end(rt: HostRuntime) -> Result<(), Fail> {
-    let mut room = vec![in rt.alloc(); 0; 65536]?;
+    let mut room = vec![in rt.alloc(); 0; MAX_PIECE as usize]?;
     let mut feed = EndedFeed { given: 0 };
     let want = Next {
         item: Item::End,

@@ -9,6 +9,7 @@ use Rattle.desk_laws.specs.declared.setup.Setup.{Setup}
 use Rattle.desk_laws.specs.declared.item.Item.{Item}
 use Rattle.desk_laws.specs.declared.item.Item.TheVariants as items
 use Rattle.desk_laws.specs.Items.{FedItem, IsInRange, FitsItem}
+use Rattle.desk_laws.specs.declared.limits.TheConstants.{MAX_PIECE}
 use Rattle.desk_laws.specs.Scene.{Post}
 use Rattle.desk_laws.specs.Frames.{PortState, zeros}
 use Rattle.desk_laws.specs.State.{DeskState, Session, fresh, opening, session_of}
@@ -269,7 +270,7 @@ no_memory gives setup bound feed frames before blank = record {
 
 -- ---- items in range
 
-pub piece_short : (guests pages : ℕ) (item : Item) (len : ℕ) → IsInRange guests pages item len → len ≤ 65536
+pub piece_short : (guests pages : ℕ) (item : Item) (len : ℕ) → IsInRange guests pages item len → len ≤ MAX_PIECE
 piece_short guests pages (items.Bytes guest) len fits = fits.1.most
 piece_short guests pages (items.Closed guest) len fits = omega (arith, fits.1)
 piece_short guests pages (items.Store guest delay page offset) len fits = omega (arith, fits.1.within)
@@ -316,10 +317,10 @@ fits_desk guests guests' pages pages' item len len' many same long fits =
     subst (λ (n : ℕ). FitsItem n pages' item len') many (subst (λ (n : ℕ). FitsItem guests n item len') same (subst (λ (n : ℕ). FitsItem guests pages item n) long fits))
 
 -- the item with its piece, as it stands at the front of a room, fits where it is in the feed's ranges
-pub item_fits : (setup : Setup) (guests pages : ℕ) (item : Item) (len : ℕ) (room : List ℕ) → guests ≡ length setup.guests → pages ≡ setup.pages → 65536 ≤ length room
+pub item_fits : (setup : Setup) (guests pages : ℕ) (item : Item) (len : ℕ) (room : List ℕ) → guests ≡ length setup.guests → pages ≡ setup.pages → MAX_PIECE ≤ length room
     → FitsItem guests pages item len → Fits setup (record { item = item; piece = take len room })
 item_fits setup guests pages item len room many same whole fits =
-    let short : len ≤ 65536 = piece_short guests pages item len fits.in_range in
+    let short : len ≤ MAX_PIECE = piece_short guests pages item len fits.in_range in
     let long : len ≡ length (take len room) = omega (arith, length-take len room) in
     fits_desk guests (length setup.guests) pages setup.pages item len (length (take len room)) many same long fits
 

@@ -3,6 +3,7 @@ ghost use Rattle.std.specs.Prelude.{◌≡◌, ◌≤◌, ◌*◌, length, vec_l
 ghost use Rattle.io_ports.specs.Counts.{Rose};
 ghost use Rattle.desk_laws.specs.Rules.{first_broken, Fits};
 ghost use Rattle.desk_laws.specs.State.{opening};
+ghost use Rattle.desk_laws.specs.declared.limits.TheConstants.{MAX_PIECE};
 ghost use Rattle.replay_driver.specs.FeedOutcomes.{FeedCall, RanOver, after_feed};
 ghost use Rattle.frame_pool.specs.Ports.{AreZeros};
 ghost use Rattle.desk_core.specs.DeskView.{picture_of};
@@ -14,14 +15,11 @@ use crate::item_writer::write_item;
 use crate::outcome::{Bounds, Outcome};
 use crate::picture_writer::picture_head;
 use desk_core::Desk;
-use desk_laws::{Item, Setup};
+use desk_laws::{Item, MAX_PIECE, Setup};
 use frame_pool::FramePort;
 use gui_num::NoMemory;
 use io_ports::{Feed, FeedFault, Sink};
 use std::alloc::Global;
-
-// The longest piece of a guest's bytes.
-const PIECE: usize = 65536;
 
 // What a run takes of memory beside the desk: the head of its Picture records, the bytes of one row
 // of pixels, and the bytes of one item.
@@ -38,11 +36,11 @@ impl Buffers {
         requires low { height ≤ 8192 }
         ensures head { IfOk result (λ b. b.head.items ≡ picture_head width height) }
         ensures line { IfOk result (λ b. vec_len b.line ≡ 3 * width) }
-        ensures room { IfOk result (λ b. vec_len b.room ≡ 65536) }
+        ensures room { IfOk result (λ b. vec_len b.room ≡ MAX_PIECE) }
     {
         let head = picture_head(alloc, width, height)?;
         let line = vec![in alloc; 0u8; 3 * width as usize]?;
-        let room = vec![in alloc; 0u8; PIECE]?;
+        let room = vec![in alloc; 0u8; MAX_PIECE as usize]?;
         Ok(Buffers { head, line, room })
     }
 }
@@ -85,7 +83,7 @@ fn run_items<F: Feed, P: FramePort, K: Sink>(
     requires fits { Fits setup.now }
     requires head { head.now ≡ picture_head setup.now.width setup.now.height }
     requires line { length line.old ≡ 3 * setup.now.width }
-    requires room { length room.old ≡ 65536 }
+    requires room { length room.old ≡ MAX_PIECE }
     requires guests { F.guests feed.old ≡ length setup.now.guests }
     requires pages { F.pages feed.old ≡ setup.now.pages }
     requires port_guests { P.guests port.old ≡ length setup.now.guests }
