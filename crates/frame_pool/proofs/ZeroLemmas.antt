@@ -1,5 +1,5 @@
 -- The frames that a pool begins with are zero words.
-use Rattle.std.proofs.Common.{◌≡◌, ℕ, zero, suc, ◌<◌, length, get_or, replicate, refl, arith}
+use Rattle.std.proofs.Common.{ℕ, zero, suc, length, get_or, replicate, refl, arith}
 use Rattle.std.proofs.lemmas.List.{length-replicate}
 use Rattle.frame_pool.specs.Ports.{AreZeros, FramesView, fresh, no_frames}
 use Rattle.frame_pool.specs.Regions.{zero_words}
