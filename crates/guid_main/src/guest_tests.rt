@@ -254,3 +254,29 @@ fn full_screen(rt: HostRuntime) -> Result<(), Fail> {
         &[&replies, &full, &summary_of(3, 4, 0)],
     )
 }
+
+// A black desktop of 4 by 2 pixels with one page and one tile a guest, and sixteen guests: `a` to `p`, of the
+// colours 1 to 16.
+fn sixteen(alloc: Global) -> Result<Vec<u8>, Fail> {
+    let head = spelled(alloc, &[4, 2, 1, 1, 1, 90, 0])?;
+    let mut config = joined(alloc, &[b"QGR1", &[1], &head, &[16]])?;
+    for guest in 0..16u8 {
+        config.extend_from_slice(&[guest + 1, 0, 0, 0, 1, b'a' + guest])?;
+    }
+    Ok(config)
+}
+
+// There is room for sixteen guests where there is memory: the last one is greeted.
+#[test]
+fn sixteen_guests(rt: HostRuntime) -> Result<(), Fail> {
+    let alloc = rt.alloc();
+    let config = sixteen(alloc)?;
+    let last = first(alloc, 15, &[])?;
+    let replies = greeted(alloc, 15, &[4, 2, 24, 1])?;
+    gives(
+        &rt,
+        alloc,
+        &[&config, &last, &[10]],
+        &[&replies, &summary_of(2, 0, 0)],
+    )
+}
