@@ -7,14 +7,16 @@ use Rattle.desk_laws.specs.declared.setup.Setup.{Setup}
 use Rattle.desk_laws.specs.declared.cause.Cause.{Cause}
 use Rattle.desk_laws.specs.declared.cause.Cause.TheVariants.{StreamEnded, LinkFailed}
 use Rattle.desk_laws.specs.declared.item.Item.TheVariants as item
+use Rattle.desk_laws.specs.Sizes.{sizes_of}
 use Rattle.desk_laws.specs.Stream.{StreamUnit, Cut, cut}
 use Rattle.desk_laws.specs.Frames.{store}
 use Rattle.desk_laws.specs.Rows.{Row, mine}
 use Rattle.desk_laws.specs.Scene.{Input, Took, Closing, Losing}
 use Rattle.desk_laws.specs.Effects.{Effect, changed, Cleared}
 use Rattle.desk_laws.specs.State.{DeskState, StepOutcome, Session, fresh, session_of, with_session, count_item}
-use Rattle.desk_laws.specs.Steps.{step, take_unit, take_units, take_bytes, take_store, end_session, unit_done, unit_effect, unit_of_open, ends, session_after, with_rest, rest_of_open, bytes_of_open, end_of_open, store_of_open}
+use Rattle.desk_laws.specs.Steps.{step, take_unit, take_units, take_bytes, take_store, end_session, unit_done, unit_effect, unit_of_open, end_told, ends, session_after, with_rest, rest_of_open, bytes_of_open, end_of_open, store_of_open}
 use Rattle.desk_laws.specs.Endings.{IsGone, EndsLeaveNothing}
+use Rattle.desk_laws.proofs.SettleLemmas.{settle-rows}
 use Rattle.desk_laws.proofs.UnitLemmas.{units-left, session-put}
 
 -- ---- the rows of a guest after its end
@@ -30,7 +32,7 @@ mine-cleared guest (row ∷ rows) = by_guest (row.guest == guest) refl (mine-cle
 
 ends-gone : (setup : Setup) (guest : ℕ) (input : Input) (cause : Cause) (desk : DeskState) → guest < length desk.sessions → IsGone guest (ends setup guest input cause desk).desk
 ends-gone setup guest input cause desk known = record {
-  rows = mine-cleared guest desk.scene.rows;
+  rows = ap (mine guest) (settle-rows (sizes_of setup) (end_told guest input cause desk.scene).scene) ∙ mine-cleared guest desk.scene.rows;
   rest = ap (λ s. s.rest) (session-put guest (record (session_of guest desk) { rest = []; ended = Some cause }) desk known);
 }
 

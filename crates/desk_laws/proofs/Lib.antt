@@ -9,6 +9,7 @@ pub mod OtherLemmas
 pub mod RowLemmas
 pub mod RuleLemmas
 pub mod ShareLemmas
+pub mod SettleLemmas
 pub mod ListedLemmas
 pub mod LimitLemmas
 pub mod SoundLemmas

@@ -19,18 +19,21 @@ use Rattle.desk_laws.specs.Stream.{StreamUnit, Word, Stop, Whole, Cut, cut}
 use Rattle.gui_wire.specs.declared.limits.TheConstants.{WINDOW_FLAG_FULLSCREEN}
 use Rattle.desk_laws.specs.Rows.{Row, id_of, mine, is_row, row_with, placed_at, outer, has_flag}
 use Rattle.desk_laws.specs.Layers.{are_apart}
-use Rattle.desk_laws.specs.Scene.{Scene, Input}
+use Rattle.desk_laws.specs.Scene.{Scene, Input, Took}
+use Rattle.desk_laws.specs.Settle.{settle}
 use Rattle.desk_laws.specs.Tiles.{tiles_in_use, tiles_needed}
 use Rattle.desk_laws.specs.Frames.{load_all}
-use Rattle.desk_laws.specs.Effects.{Change, Same, Added, Replaced, Removed, Cleared, changed, replaced_in, of_guest, forgets, name_without, Area, clipped, placed_by, configured_row, Verdict, Ends, Greets, Goes, Reads, unless, first_of_causes, exists_already, too_many, bad_ref, over_budget, refs_besides, range_fault, created, id_if, isnt_zero, flagged, goes_full, flags_after, reads, tells_place, whole_desktop, acks, message_to_window, message_to, in_range_verdict, message_verdict, verdict, greeting, drawn_row, frame_places, points}
+use Rattle.desk_laws.specs.Effects.{Effect, Change, Same, Added, Replaced, Removed, Cleared, changed, replaced_in, of_guest, forgets, name_without, Area, clipped, placed_by, configured_row, Verdict, Ends, Greets, Goes, Reads, unless, first_of_causes, exists_already, too_many, bad_ref, over_budget, refs_besides, range_fault, created, id_if, isnt_zero, flagged, goes_full, flags_after, reads, tells_place, whole_desktop, acks, message_to_window, message_to, in_range_verdict, message_verdict, verdict, greeting, drawn_row, frame_places, points}
 use Rattle.desk_laws.specs.Following.{ChangesOne}
 use Rattle.desk_laws.specs.State.{DeskState, session_of}
-use Rattle.desk_laws.specs.Steps.{take_unit, take_units, take_bytes, end_session, unit_of_open, with_rest, bytes_of_open, end_of_open}
+use Rattle.desk_laws.specs.Steps.{take_unit, take_units, take_bytes, end_session, unit_of_open, unit_told, end_told, went, ends, with_rest, bytes_of_open, end_of_open}
 use Rattle.desk_laws.specs.Override.{Placement, effective, is_granted, moved_inside, taken_besides, is_over, area_over, LiesOnDesktop, KeepsLimits}
 use Rattle.desk_laws.proofs.ChangeLemmas.{IsOfOne, window_of_unit, of_unit, found-window}
 use Rattle.desk_laws.proofs.OtherLemmas.{others-keep_rows}
 use Rattle.desk_laws.proofs.ShareLemmas.{besides-le, besides-and_row, replaced-area, added-area, fewer-area, forgetting-area}
 use Rattle.desk_laws.proofs.ListedLemmas.{AreListed, done, unit-listed, rest-scene}
+use Rattle.desk_laws.proofs.SettleLemmas.{settle-rows}
+use Rattle.desk_laws.proofs.UnitLemmas.{effect_of}
 
 -- ---- the limits of one guest's rows
 
@@ -351,20 +354,37 @@ change-limited sizes guest window (Removed w) rows limits apart one fits =
     forgetting-limited sizes guest w (filter (λ row. not (is_row guest w row)) rows) (fewer-limited sizes guest rows limits (λ row. not (is_row guest w row)))
 change-limited sizes guest window Cleared rows limits apart one fits = fewer-limited sizes guest rows limits (λ row. not (row.guest == guest))
 
+-- settling keeps the limits
+settled-limited : (sizes : Sizes) (scene : Scene) → KeepsLimits sizes scene.rows → KeepsLimits sizes (settle sizes scene).scene.rows
+settled-limited sizes scene limits = subst (KeepsLimits sizes) (sym (settle-rows sizes scene)) limits
+
 module _ (setup : Setup) (guest : ℕ) where
+  -- the rows of a unit, settled
+  unit-kept : (unit : StreamUnit) (e : Effect) (desk : DeskState) → KeepsLimits (sizes_of setup) e.rows
+      → KeepsLimits (sizes_of setup) (went setup guest unit e desk).desk.scene.rows
+  unit-kept unit e desk limits = settled-limited (sizes_of setup) (unit_told guest unit e desk.scene).scene limits
+
+  -- the rows that an end leaves, settled
+  end-kept : (input : Input) (cause : Cause) (desk : DeskState) → KeepsLimits (sizes_of setup) desk.scene.rows
+      → KeepsLimits (sizes_of setup) (ends setup guest input cause desk).desk.scene.rows
+  end-kept input cause desk limits =
+      settled-limited (sizes_of setup) (end_told guest input cause desk.scene).scene
+      (fewer-limited (sizes_of setup) guest desk.scene.rows limits (λ row. not (row.guest == guest)))
+
   -- what a verdict leaves
   verdict-limited : (unit : StreamUnit) (window : ℕ) (desk : DeskState) (v : Verdict) → are_apart (map id_of desk.scene.rows) ≡ true
       → KeepsLimits (sizes_of setup) desk.scene.rows → IsOfOne window (mine guest desk.scene.rows) v → FitsVerdict (sizes_of setup) (mine guest desk.scene.rows) v
       → KeepsLimits (sizes_of setup) (done setup guest unit desk v).desk.scene.rows
-  verdict-limited unit window desk (Ends cause) apart limits one fits =
-      fewer-limited (sizes_of setup) guest desk.scene.rows limits (λ row. not (row.guest == guest))
-  verdict-limited unit window desk (Greets minor answers) apart limits one fits = limits
+  verdict-limited unit window desk (Ends cause) apart limits one fits = end-kept (Took unit) cause desk limits
+  verdict-limited unit window desk (Greets minor answers) apart limits one fits = unit-kept unit (effect_of guest desk (Greets minor answers)) desk limits
   verdict-limited unit window desk (Goes change answers) apart limits one fits =
-      change-limited (sizes_of setup) guest window change desk.scene.rows limits apart one fits
+      unit-kept unit (effect_of guest desk (Goes change answers)) desk
+      (change-limited (sizes_of setup) guest window change desk.scene.rows limits apart one fits)
   verdict-limited unit window desk (Reads row area) apart limits one fits =
-      replaced-limited (sizes_of setup) guest desk.scene.rows limits
+      unit-kept unit (effect_of guest desk (Reads row area)) desk
+      (replaced-limited (sizes_of setup) guest desk.scene.rows limits
       (drawn_row row area (load_all (session_of guest desk).port (frame_places row.dump (points area))).words) apart
-      (found-within (sizes_of setup) (mine guest desk.scene.rows) (of-guest (sizes_of setup) guest desk.scene.rows limits) window row one)
+      (found-within (sizes_of setup) (mine guest desk.scene.rows) (of-guest (sizes_of setup) guest desk.scene.rows limits) window row one))
 
   -- one unit
   pub unit-limited : (unit : StreamUnit) (desk : DeskState) → are_apart (map id_of desk.scene.rows) ≡ true → KeepsLimits (sizes_of setup) desk.scene.rows
@@ -411,5 +431,5 @@ module _ (setup : Setup) (guest : ℕ) where
   end-limited input cause desk limits = by_end (session_of guest desk).ended
     where
       by_end : (e : Option Cause) → KeepsLimits (sizes_of setup) (end_of_open setup guest input cause e desk).desk.scene.rows
-      by_end None = fewer-limited (sizes_of setup) guest desk.scene.rows limits (λ row. not (row.guest == guest))
+      by_end None = end-kept input cause desk limits
       by_end (Some c) = limits

@@ -9,11 +9,11 @@ use Rattle.desk_laws.specs.Sizes.{sizes_of}
 use Rattle.desk_laws.specs.Stream.{StreamUnit, Cut, cut}
 use Rattle.desk_laws.specs.Rows.{id_of, mine}
 use Rattle.desk_laws.specs.Layers.{are_apart}
-use Rattle.desk_laws.specs.Scene.{Scene, Input, Closing, Losing}
+use Rattle.desk_laws.specs.Scene.{Scene, Input, Took, Closing, Losing}
 use Rattle.desk_laws.specs.Frames.{load_all, store}
-use Rattle.desk_laws.specs.Effects.{Verdict, Ends, Greets, Goes, Reads, verdict, Cleared, Replaced, drawn_row, frame_places, points}
+use Rattle.desk_laws.specs.Effects.{Effect, Verdict, Ends, Greets, Goes, Reads, verdict, Cleared, Replaced, drawn_row, frame_places, points}
 use Rattle.desk_laws.specs.State.{DeskState, session_of, count_item}
-use Rattle.desk_laws.specs.Steps.{take_unit, take_units, take_bytes, end_session, unit_of_open, with_rest, bytes_of_open, end_of_open, take_store, store_of_open}
+use Rattle.desk_laws.specs.Steps.{take_unit, take_units, take_bytes, end_session, unit_of_open, unit_told, end_told, went, ends, with_rest, bytes_of_open, end_of_open, take_store, store_of_open}
 use Rattle.desk_laws.specs.Following.{LayersFollow}
 use Rattle.desk_laws.specs.Override.{KeepsLimits}
 use Rattle.desk_laws.specs.Endings.{IsGone}
@@ -22,17 +22,30 @@ use Rattle.desk_laws.proofs.FollowChanges.{none-follow}
 use Rattle.desk_laws.proofs.ListedLemmas.{AreListed, done, rest-scene, bytes-listed, end-listed}
 use Rattle.desk_laws.proofs.LimitLemmas.{none-limited, bytes-limited, end-limited}
 use Rattle.desk_laws.proofs.OtherLemmas.{others-keep_rows}
+use Rattle.desk_laws.proofs.SettleLemmas.{settle-rows}
+use Rattle.desk_laws.proofs.UnitLemmas.{effect_of}
 use Rattle.desk_laws.proofs.EndLemmas.{length-unit, length-rest, bytes-other, end-other, ends-leave_nothing, store-ended}
 
 -- ---- the rows of others, and the number of sessions
 
 module _ (setup : Setup) (guest other : ℕ) (apart : other ≢ guest) where
+  -- the rows of a unit, settled
+  went-keeps : (unit : StreamUnit) (e : Effect) (desk : DeskState) → mine other e.rows ≡ mine other desk.scene.rows → mine other (went setup guest unit e desk).desk.scene.rows ≡ mine other desk.scene.rows
+  went-keeps unit e desk same = ap (mine other) (settle-rows (sizes_of setup) (unit_told guest unit e desk.scene).scene) ∙ same
+
+  -- the rows that an end leaves, settled
+  ends-keep : (input : Input) (cause : Cause) (desk : DeskState) → mine other (ends setup guest input cause desk).desk.scene.rows ≡ mine other desk.scene.rows
+  ends-keep input cause desk =
+      ap (mine other) (settle-rows (sizes_of setup) (end_told guest input cause desk.scene).scene) ∙ others-keep_rows guest other Cleared desk.scene.rows apart
+
   pub verdict-keeps : (unit : StreamUnit) (desk : DeskState) (v : Verdict) → mine other (done setup guest unit desk v).desk.scene.rows ≡ mine other desk.scene.rows
-  verdict-keeps unit desk (Ends cause) = others-keep_rows guest other Cleared desk.scene.rows apart
-  verdict-keeps unit desk (Greets minor answers) = refl
-  verdict-keeps unit desk (Goes change answers) = others-keep_rows guest other change desk.scene.rows apart
+  verdict-keeps unit desk (Ends cause) = ends-keep (Took unit) cause desk
+  verdict-keeps unit desk (Greets minor answers) = went-keeps unit (effect_of guest desk (Greets minor answers)) desk refl
+  verdict-keeps unit desk (Goes change answers) =
+      went-keeps unit (effect_of guest desk (Goes change answers)) desk (others-keep_rows guest other change desk.scene.rows apart)
   verdict-keeps unit desk (Reads row area) =
-      others-keep_rows guest other (Replaced (drawn_row row area (load_all (session_of guest desk).port (frame_places row.dump (points area))).words)) desk.scene.rows apart
+      went-keeps unit (effect_of guest desk (Reads row area)) desk
+      (others-keep_rows guest other (Replaced (drawn_row row area (load_all (session_of guest desk).port (frame_places row.dump (points area))).words)) desk.scene.rows apart)
 
   pub unit-keeps : (unit : StreamUnit) (desk : DeskState) → mine other (take_unit setup guest unit desk).desk.scene.rows ≡ mine other desk.scene.rows
   unit-keeps unit desk = by_end (session_of guest desk).ended
@@ -59,7 +72,7 @@ module _ (setup : Setup) (guest other : ℕ) (apart : other ≢ guest) where
   end-keeps input cause desk = by_end (session_of guest desk).ended
     where
       by_end : (e : Option Cause) → mine other (end_of_open setup guest input cause e desk).desk.scene.rows ≡ mine other desk.scene.rows
-      by_end None = others-keep_rows guest other Cleared desk.scene.rows apart
+      by_end None = ends-keep input cause desk
       by_end (Some c) = refl
 
 module _ (setup : Setup) (guest : ℕ) where
