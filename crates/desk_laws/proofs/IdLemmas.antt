@@ -16,7 +16,7 @@ same_row-is a b h =
     row : ℕ → ℕ → RowId
     row guest window = record { guest = guest; window = window }
 
-and-false : (b : Bool) → (b && false) ≡ false
+pub and-false : (b : Bool) → (b && false) ≡ false
 and-false true = refl
 and-false false = refl
 
@@ -71,7 +71,7 @@ filter-empty p (x ∷ xs) none =
 
 -- ---- no id twice
 
-abbrev apart-parts : (x : RowId) (xs : List RowId) → are_apart (x ∷ xs) ≡ true → (is_in xs x ≡ false) × (are_apart xs ≡ true)
+abbrev pub apart-parts : (x : RowId) (xs : List RowId) → are_apart (x ∷ xs) ≡ true → (is_in xs x ≡ false) × (are_apart xs ≡ true)
 apart-parts x xs apart =
     let parts = and_parts (not (is_in xs x)) (are_apart xs) apart in
     (not-true (is_in xs x) parts.0, parts.1)

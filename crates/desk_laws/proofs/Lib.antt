@@ -6,6 +6,7 @@ pub mod CheckLemmas
 pub mod CuttingLemmas
 pub mod LayerLemmas
 pub mod OtherLemmas
+pub mod RaiseLemmas
 pub mod RowLemmas
 pub mod RuleLemmas
 pub mod ShareLemmas
