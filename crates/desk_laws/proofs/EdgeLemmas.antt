@@ -26,7 +26,7 @@ last-same f h [] a b ea eb fb ha = cc
 last-same f h (x ∷ xs) a b ea eb fb ha = grind (arith, nat_tests, last-none f h xs b, last-none h f xs a, last-same f h xs a b)
 
 -- the last member that passes passes
-last-passes : {X : Type 0} (f : X → Bool) (xs : List X) (a : X) → last_that f xs ≡ Some a → f a ≡ true
+pub last-passes : {X : Type 0} (f : X → Bool) (xs : List X) (a : X) → last_that f xs ≡ Some a → f a ≡ true
 last-passes f [] a e = cc
 last-passes f (x ∷ xs) a e = grind (arith, nat_tests, last-passes f xs a)
 

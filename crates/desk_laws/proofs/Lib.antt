@@ -7,12 +7,14 @@ pub mod CuttingLemmas
 pub mod LayerLemmas
 pub mod OtherLemmas
 pub mod RaiseLemmas
+pub mod RouteLemmas
 pub mod RowLemmas
 pub mod RuleLemmas
 pub mod ShareLemmas
 pub mod SettleLemmas
 pub mod ListedLemmas
 pub mod LimitLemmas
+pub mod EventLemmas
 pub mod SoundLemmas
 pub mod UnitLemmas
 pub mod IdLemmas

@@ -56,7 +56,7 @@ pub record IsWithin (sizes : Sizes) (own : List Row) (window : ℕ) (over : Bool
 abbrev pub FitsRow : Sizes → List Row → Row → Type 0
 FitsRow sizes own new = IsWithin sizes own new.window (is_over new) new.place
 
-of-guest : (sizes : Sizes) (guest : ℕ) (rows : List Row) → KeepsLimits sizes rows → OwnLimits sizes (mine guest rows)
+pub of-guest : (sizes : Sizes) (guest : ℕ) (rows : List Row) → KeepsLimits sizes rows → OwnLimits sizes (mine guest rows)
 of-guest sizes guest rows limits = record {
   inside = All-filter (λ row. row.guest == guest) (IsInside sizes) rows limits.inside;
   share = limits.share guest;
@@ -93,7 +93,7 @@ moved-lies sizes place wide high =
 
 module _ (sizes : Sizes) (own : List Row) (limits : OwnLimits sizes own) where
   -- a window that isn't in the override layer
-  none-within : (window : ℕ) (place : Rect) → IsWithin sizes own window false place
+  pub none-within : (window : ℕ) (place : Rect) → IsWithin sizes own window false place
   none-within window place = record {
     inside = λ e. absurd (cc);
     share = hundredfold _ _ _ (plus_none _ _ (besides-le sizes.border window own)) limits.share;
@@ -103,7 +103,7 @@ module _ (sizes : Sizes) (own : List Row) (limits : OwnLimits sizes own) where
       plus_none a b less = omega arith
 
   -- a row that is unmapped, or else in this layer
-  and-within : (window : ℕ) (mapped over : Bool) (place : Rect) → IsWithin sizes own window over place → IsWithin sizes own window (mapped && over) place
+  pub and-within : (window : ℕ) (mapped over : Bool) (place : Rect) → IsWithin sizes own window over place → IsWithin sizes own window (mapped && over) place
   and-within window true over place is = is
   and-within window false over place is = none-within window place
 
@@ -144,7 +144,7 @@ module _ (sizes : Sizes) (own : List Row) (limits : OwnLimits sizes own) where
       by_test false h further = further h
 
   -- the row that is there keeps the limits
-  found-within : (window : ℕ) (row : Row) → row_with window own ≡ Some row → IsWithin sizes own row.window (is_over row) row.place
+  pub found-within : (window : ℕ) (row : Row) → row_with window own ≡ Some row → IsWithin sizes own row.window (is_over row) row.place
   found-within window row is =
       let here : IsWithin sizes own window (is_over row) row.place =
       record {
@@ -156,7 +156,7 @@ module _ (sizes : Sizes) (own : List Row) (limits : OwnLimits sizes own) where
 -- ---- what a verdict puts in a row's place
 
 -- what is known of a change
-abbrev FitsChange : Sizes → List Row → Change → Type 0
+abbrev pub FitsChange : Sizes → List Row → Change → Type 0
 FitsChange sizes own Same = Unit {0}
 FitsChange sizes own (Added row) = Unit {0}
 FitsChange sizes own (Replaced new) = FitsRow sizes own new
@@ -345,7 +345,7 @@ forgetting-limited sizes guest window rows limits = record {
 -- ---- units and bytes
 
 -- what a change of one window leaves
-change-limited : (sizes : Sizes) (guest window : ℕ) (change : Change) (rows : List Row) → KeepsLimits sizes rows → are_apart (map id_of rows) ≡ true
+pub change-limited : (sizes : Sizes) (guest window : ℕ) (change : Change) (rows : List Row) → KeepsLimits sizes rows → are_apart (map id_of rows) ≡ true
     → ChangesOne window (mine guest rows) change → FitsChange sizes (mine guest rows) change → KeepsLimits sizes (changed guest change rows)
 change-limited sizes guest window Same rows limits apart one fits = limits
 change-limited sizes guest window (Added row) rows limits apart one fits = added-limited sizes guest rows limits row one.from.1

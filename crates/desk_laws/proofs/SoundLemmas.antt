@@ -24,6 +24,7 @@ use Rattle.desk_laws.proofs.LimitLemmas.{none-limited, bytes-limited, end-limite
 use Rattle.desk_laws.proofs.OtherLemmas.{others-keep_rows}
 use Rattle.desk_laws.proofs.SettleLemmas.{settle-rows}
 use Rattle.desk_laws.proofs.UnitLemmas.{effect_of}
+use Rattle.desk_laws.proofs.EventLemmas.{event-sound}
 use Rattle.desk_laws.proofs.EndLemmas.{length-unit, length-rest, bytes-other, end-other, ends-leave_nothing, store-ended}
 
 -- ---- the rows of others, and the number of sessions
@@ -204,4 +205,4 @@ steps-keep_sound setup (item.Store g delay page offset) piece state taken is = s
 steps-keep_sound setup item.Snap piece state taken is = counted-sound setup state is
 steps-keep_sound setup item.End piece state taken is = counted-sound setup state is
 steps-keep_sound setup item.Idle piece state taken is = is
-steps-keep_sound setup i piece state taken is = cc
+steps-keep_sound setup i piece state taken is = event-sound setup i (count_item state) (counted-sound setup state is)
