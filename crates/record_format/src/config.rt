@@ -43,7 +43,7 @@ fn no_config(part: PartRead) -> ConfigRead
 }
 
 // The number of the four bytes from this place on, the lowest first.
-pub fn number_at(bytes: &[u8], place: usize) -> u32
+pub(crate) fn number_at(bytes: &[u8], place: usize) -> u32
     requires { place + 4 ≤ length bytes.now }
     ensures { result ≡ number_at place bytes.now }
 {
