@@ -7,9 +7,9 @@ use Rattle.desk_laws.specs.Effects.{Area, frame_place}
 use Rattle.tile_store.specs.declared.shelf.Tile.{Tile}
 use Rattle.tile_store.specs.Spots.{spot_of}
 use Rattle.tile_store.specs.Held.{written, is_held, places_in_row}
-use Rattle.tile_store.specs.Contents.{HoldsAll, KeepsHeld}
+use Rattle.tile_store.specs.Contents.{HoldsAll, KeepsHeld, tiles_coloured}
 use Rattle.tile_store.proofs.OpenLemmas.{row-next, grid-next}
-use Rattle.guest_session.specs.Reading.{tiles_coloured, rect_of}
+use Rattle.guest_session.specs.Reading.{rect_of}
 use Rattle.guest_session.specs.Areas.{Covers, row_in, pixel_at, tiles_read, frames_read}
 
 -- ---- what is still to be read

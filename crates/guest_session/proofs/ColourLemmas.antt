@@ -11,13 +11,14 @@ use Rattle.tile_store.specs.declared.shelf.Tile.{Tile}
 use Rattle.tile_store.specs.Spots.{same, spot_of}
 use Rattle.tile_store.specs.Squares.{has_pixel}
 use Rattle.tile_store.specs.Held.{tile_at, is_held, pixel_in, colour_at, is_whole, are_whole, blank_tile, placed, with_tile, opened, tiles_along, tiles_met, written_in, written}
+use Rattle.tile_store.specs.Contents.{tiles_coloured}
 use Rattle.tile_store.proofs.RiseLemmas.{all-placed, written-stays, found-map}
 use Rattle.tile_store.proofs.ContentLemmas.{changed-found, found-same, opened-keeps, opened-holds, written-colours, written-other}
 use Rattle.tile_store.proofs.WholeLemmas.{all-keeps, whole-with, whole-written}
 use Rattle.tile_store.proofs.UsedLemmas.{all-found, grid-none, grid-some}
 use Rattle.window_table.specs.Entries.{Entry, entry_at}
 use Rattle.guest_session.specs.RowsView.{contents_in, is_owned}
-use Rattle.guest_session.specs.Reading.{area_loads, rect_of, tiles_coloured}
+use Rattle.guest_session.specs.Reading.{area_loads, rect_of}
 use Rattle.guest_session.specs.ReadTiles.{read_into}
 use Rattle.guest_session.proofs.GridLemmas.{grid-same, grid-all, set-grid, with_at}
 

@@ -12,12 +12,13 @@ use Rattle.desk_laws.specs.Frames.{PortState, load_all}
 use Rattle.desk_laws.specs.Effects.{Area, Verdict, Ends, Reads, points, clipped, drawn_row, frame_places, reads}
 use Rattle.tile_store.specs.declared.shelf.Tile.{Tile}
 use Rattle.tile_store.specs.Held.{TilesView, are_whole, missing, opened, rises, tiles_along, tiles_met}
+use Rattle.tile_store.specs.Contents.{tiles_coloured}
 use Rattle.window_table.specs.declared.pane.DumpSize.{DumpSize}
 use Rattle.window_table.specs.Entries.{Entry, TableView, AreApart, entry_at, updated, size_of_dump}
 use Rattle.guest_session.specs.SessionView.{IsPlace}
 use Rattle.guest_session.specs.RowsView.{RowsView, AreKept, HasFitDump, StaysInside, own_row, own_rows, viewed, with_row}
 use Rattle.guest_session.specs.Areas.{Covers, dump_of, dump_at}
-use Rattle.guest_session.specs.Reading.{ReadsAs, area_loads, drawn_by, rect_of, tiles_coloured}
+use Rattle.guest_session.specs.Reading.{ReadsAs, area_loads, drawn_by, rect_of}
 use Rattle.guest_session.specs.ReadTiles.{ReadsTiles, clipped_to, needed, read_into, width_in}
 use Rattle.guest_session.proofs.GridLemmas.{grid-narrow}
 use Rattle.guest_session.proofs.TableLemmas.{HasSlot}

@@ -4,10 +4,10 @@ use Rattle.desk_laws.specs.Rows.{DumpOf}
 use Rattle.desk_laws.specs.Frames.{PortState, load_all}
 use Rattle.desk_laws.specs.Effects.{Area, frame_places}
 use Rattle.tile_store.specs.declared.shelf.Tile.{Tile}
+use Rattle.tile_store.specs.Contents.{tiles_coloured}
 use Rattle.window_table.specs.Entries.{Entry, entry_at}
 use Rattle.guest_session.specs.declared.read.Reported.{Reported}
 use Rattle.guest_session.specs.RowsView.{FitsDump}
-use Rattle.guest_session.specs.Reading.{tiles_coloured}
 
 -- the area as the definitions have it
 abbrev pub area_in : Reported → Area

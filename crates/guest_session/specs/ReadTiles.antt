@@ -9,7 +9,8 @@ use Rattle.desk_laws.specs.Effects.{Area, points, no_area, side_within}
 use Rattle.window_table.specs.declared.pane.DumpSize.{DumpSize}
 use Rattle.tile_store.specs.declared.shelf.Tile.{Tile}
 use Rattle.tile_store.specs.Held.{TilesView, opened, missing, tiles_met}
-use Rattle.guest_session.specs.Reading.{rect_of, drawn_by, area_loads, tiles_coloured}
+use Rattle.tile_store.specs.Contents.{tiles_coloured}
+use Rattle.guest_session.specs.Reading.{rect_of, drawn_by, area_loads}
 
 -- the area of an SHMIMAGE clipped to a dump of this size and to a place
 abbrev pub clipped_to : Rect → Option DumpSize → ℕ → ℕ → ℕ → ℕ → Area

@@ -1,13 +1,10 @@
 -- What is read of a window's frame.
-use Rattle.std.specs.Prelude.{◌≡◌, ℕ, ◌+◌, ◌*◌, ◌/◌, ◌%◌, ◌^◌, ◌||◌, ◌==◌, List, [], ◌∷◌, Option, Some, None, if◌then◌else◌, pos, Result, Ok, Err}
+use Rattle.std.specs.Prelude.{◌≡◌, ℕ, ◌||◌, ◌==◌, Option, Some, None, if◌then◌else◌, pos, Result, Ok, Err}
 use Rattle.gui_num.specs.declared.Rect.{Rect}
 use Rattle.desk_laws.specs.declared.cause.Cause.{Cause}
 use Rattle.desk_laws.specs.Rows.{Row, DumpOf, content_at}
 use Rattle.desk_laws.specs.Frames.{PortState, Loads, load_all}
 use Rattle.desk_laws.specs.Effects.{Area, Verdict, Ends, Greets, Goes, Reads, points, frame_places, drawn_row}
-use Rattle.tile_store.specs.declared.shelf.Tile.{Tile}
-use Rattle.tile_store.specs.Spots.{spot_of}
-use Rattle.tile_store.specs.Held.{written}
 use Rattle.guest_session.specs.RowsView.{RowsView, with_row}
 
 -- an area as a rectangle of the window, from its upper left corner
@@ -26,13 +23,6 @@ area_loads port dump area = load_all port (frame_places dump (points area))
 abbrev pub content_in : Option Row → ℕ → ℕ → Option ℕ
 content_in None x y = None
 content_in (Some row) x y = content_at row x y
-
--- the tiles once these pixels of a slot got the colours of these words, one after the other
-abbrev pub tiles_coloured : ℕ → List (ℕ × ℕ) → List ℕ → List Tile → List Tile
-tiles_coloured slot [] words held = held
-tiles_coloured slot (p ∷ ps) [] held = held
-tiles_coloured slot (p ∷ ps) (w ∷ ws) held =
-    tiles_coloured slot ps ws (written (spot_of slot (p.0 / 64, p.1 / 64)) (p.1 % 64 * 64 + p.0 % 64) (w % 2 ^ 24) held)
 
 -- nothing was read, since too many tiles would be taken
 pub record ReadsNothing (port port' : PortState) (old new : RowsView) (result : Result (Option Rect) Cause) (cause : Cause) : Type 0 where

@@ -6,8 +6,8 @@ ghost use Rattle.frame_pool.specs.Ports.{ChangesFrames};
 ghost use Rattle.desk_laws.specs.declared.limits.TheConstants.{PAGE_WORDS};
 ghost use Rattle.tile_store.specs.Spots.{spot_of};
 ghost use Rattle.tile_store.specs.Held.{is_held, places_in_row};
-ghost use Rattle.tile_store.specs.Contents.{HoldsAll, KeepsHeld};
-ghost use Rattle.guest_session.specs.Reading.{rect_of, area_loads, tiles_coloured};
+ghost use Rattle.tile_store.specs.Contents.{HoldsAll, KeepsHeld, tiles_coloured};
+ghost use Rattle.guest_session.specs.Reading.{rect_of, area_loads};
 ghost use Rattle.guest_session.specs.Areas.{Covers, area_in, dump_at, row_in, pixel_at, tiles_read, frames_read};
 
 use desk_laws::PAGE_BYTES;

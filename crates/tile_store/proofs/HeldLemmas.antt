@@ -1,11 +1,11 @@
 -- Tiles in their order: where a spot stands among them.
-use Rattle.std.proofs.Common.{◌≡◌, ℕ, zero, suc, ◌-◌, ◌<◌, ◌≤◌, Bool, true, false, cond, List, [], ◌∷◌, ◌++◌, length, take, drop, get_or, set, Option, Some, None, is_some, refl, sym, ap, ◌∙◌, subst, arith}
+use Rattle.std.proofs.Common.{◌≡◌, ℕ, zero, suc, ◌-◌, ◌<◌, ◌≤◌, Bool, true, false, cond, List, [], ◌∷◌, ◌++◌, length, take, drop, get_or, set, map, Option, Some, None, is_some, refl, sym, ap, ◌∙◌, subst, arith}
 use Rattle.std.specs.List.{list_all}
 use Rattle.std.proofs.lemmas.Bool.{and_parts, cond-true, cond-false, both_ways}
 use Rattle.tile_store.specs.declared.spot.Spot.{Spot}
 use Rattle.tile_store.specs.declared.shelf.Tile.{Tile}
 use Rattle.tile_store.specs.Spots.{before, same}
-use Rattle.tile_store.specs.Held.{tile_at, is_held, pixel_in, rises, placed, written_in, written}
+use Rattle.tile_store.specs.Held.{tile_at, is_held, pixel_in, rises, placed}
 use Rattle.tile_store.specs.Places.{IsPlaceFor, first_at, is_first}
 use Rattle.tile_store.proofs.OrderLemmas.{before-trans, before-not-same, before-same, same-not-before}
 
@@ -170,35 +170,38 @@ placed-here t (u ∷ us) (suc i) rising place =
     cond-true (before u.spot t.spot) (u ∷ placed t us) (t ∷ u ∷ us) (first-before t.spot u us i parts.0 place)
     ∙ ap (λ rest. u ∷ rest) (placed-here t us i parts.1 (place-tail t.spot u us i place))
 
--- a colour at a pixel
-written-none : (spot : Spot) (k colour : ℕ) (t : Tile) (ts : List Tile) → before t.spot spot ≡ false → list_all (after t) ts ≡ true → written spot k colour ts ≡ ts
-written-none spot k colour t [] not-before all = refl
-written-none spot k colour t (u ∷ us) not-before all =
-    let parts = and_parts (after t u) (list_all (after t) us) all in
-    let here : written_in spot k colour u ≡ u =
-    cond-false (same u.spot spot) (record u { square = set u.square k (Some colour) }) u (other-spot spot t u not-before parts.0) in
-    ap (λ v. v ∷ written spot k colour us) here ∙ ap (λ rest. u ∷ rest) (written-none spot k colour t us not-before parts.1)
-
 -- a tile with other pixels
 abbrev pub with_square : List (Option ℕ) → Tile → Tile
 with_square square t = record t { square = square }
 
-pub written-here : (spot : Spot) (k colour : ℕ) (held : List Tile) (i : ℕ) (x : Tile) (square : List (Option ℕ)) →
-    rises held ≡ true → IsPlaceFor spot held i → is_first spot (drop i held) ≡ true → x ≡ get_or held i x →
-    square ≡ set x.square k (Some colour) → set held i (with_square square x) ≡ written spot k colour held
-written-here spot k colour [] zero x square rising place first e sq = absurd cc
-written-here spot k colour [] (suc i) x square rising place first e sq = absurd cc
-written-here spot k colour (t ∷ ts) zero x square rising place first e sq =
-    let parts = and_parts (list_all (after t) ts) (rises ts) rising in
-    let new : with_square square x ≡ with_square (set t.square k (Some colour)) t =
-    ap (λ s. with_square s x) sq ∙ ap (λ (u : Tile). with_square (set u.square k (Some colour)) u) e in
-    ap (λ u. u ∷ ts) (new ∙ sym (cond-true (same t.spot spot) (with_square (set t.square k (Some colour)) t) t first))
-    ∙ ap (λ rest. written_in spot k colour t ∷ rest) (sym (written-none spot k colour t ts (place.ahead t (omega arith)) parts.0))
-written-here spot k colour (t ∷ ts) (suc i) x square rising place first e sq =
-    let parts = and_parts (list_all (after t) ts) (rises ts) rising in
-    let other = before-not-same t.spot spot (first-before spot t ts i parts.0 place) in
-    ap (λ rest. t ∷ rest) (written-here spot k colour ts i x square parts.1 (place-tail spot t ts i place) first e sq)
-    ∙ ap (λ u. u ∷ written spot k colour ts) (sym (cond-false (same t.spot spot) (with_square (set t.square k (Some colour)) t) t other))
+-- a change of the pixels of the tile at a spot
+module _ (spot : Spot) (f : List (Option ℕ) → List (Option ℕ)) where
+  abbrev pub changed_in : Tile → Tile
+  changed_in t = cond (same t.spot spot) (with_square (f t.square) t) t
+
+  changed-none : (t : Tile) (ts : List Tile) → before t.spot spot ≡ false → list_all (after t) ts ≡ true → map changed_in ts ≡ ts
+  changed-none t [] not-before all = refl
+  changed-none t (u ∷ us) not-before all =
+      let parts = and_parts (after t u) (list_all (after t) us) all in
+      let here : changed_in u ≡ u = cond-false (same u.spot spot) (with_square (f u.square) u) u (other-spot spot t u not-before parts.0) in
+      ap (λ v. v ∷ map changed_in us) here ∙ ap (λ rest. u ∷ rest) (changed-none t us not-before parts.1)
+
+  pub changed-here : (held : List Tile) (i : ℕ) (x : Tile) (square : List (Option ℕ)) →
+      rises held ≡ true → IsPlaceFor spot held i → is_first spot (drop i held) ≡ true → x ≡ get_or held i x →
+      square ≡ f x.square → set held i (with_square square x) ≡ map changed_in held
+  changed-here [] zero x square rising place first e sq = absurd cc
+  changed-here [] (suc i) x square rising place first e sq = absurd cc
+  changed-here (t ∷ ts) zero x square rising place first e sq =
+      let parts = and_parts (list_all (after t) ts) (rises ts) rising in
+      let new : with_square square x ≡ with_square (f t.square) t =
+      ap (λ s. with_square s x) sq ∙ ap (λ (u : Tile). with_square (f u.square) u) e in
+      ap (λ u. u ∷ ts) (new ∙ sym (cond-true (same t.spot spot) (with_square (f t.square) t) t first))
+      ∙ ap (λ rest. changed_in t ∷ rest) (sym (changed-none t ts (place.ahead t (omega arith)) parts.0))
+  changed-here (t ∷ ts) (suc i) x square rising place first e sq =
+      let parts = and_parts (list_all (after t) ts) (rises ts) rising in
+      let other = before-not-same t.spot spot (first-before spot t ts i parts.0 place) in
+      ap (λ rest. t ∷ rest) (changed-here ts i x square parts.1 (place-tail spot t ts i place) first e sq)
+      ∙ ap (λ u. u ∷ map changed_in ts) (sym (cond-false (same t.spot spot) (with_square (f t.square) t) t other))
 
 -- what the code reads of the tile at a place
 pub read-here : (spot : Spot) (held : List Tile) (i k : ℕ) (x : Tile) → rises held ≡ true → IsPlaceFor spot held i →

@@ -8,5 +8,6 @@ pub mod ContentLemmas
 pub mod CutLemmas
 pub mod CountLemmas
 pub mod WholeLemmas
+pub mod RowLemmas
 pub mod UsedLemmas
 pub mod InUseLemmas

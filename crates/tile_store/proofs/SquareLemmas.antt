@@ -1,8 +1,9 @@
 -- What words stand for, as they are written and cut.
-use Rattle.std.proofs.Common.{◌≡◌, ℕ, zero, suc, ◌<◌, Bool, true, false, cond, ◌||◌, ltb, List, [], ◌∷◌, ◌++◌, length, take, drop, set, get_or, replicate, Some, None, is_some, refl, ap, ◌∙◌, arith}
+use Rattle.std.proofs.Common.{◌≡◌, ℕ, zero, suc, ◌+◌, ◌<◌, ◌≤◌, Bool, true, false, cond, ◌||◌, ltb, List, [], ◌∷◌, ◌++◌, length, take, drop, set, get_or, replicate, Option, Some, None, is_some, refl, sym, ap, ◌∙◌, arith}
 use Rattle.std.specs.List.{list_any}
 use Rattle.std.proofs.lemmas.Bool.{lt-ltb}
-use Rattle.tile_store.specs.Squares.{shown, all_shown, blanks, has_pixel, is_inside, cut_from, cut_word, cut_words, is_colour}
+use Rattle.std.proofs.lemmas.List.{length-set}
+use Rattle.tile_store.specs.Squares.{shown, all_shown, blanks, has_pixel, coloured_from, is_inside, cut_from, cut_word, cut_words, is_colour}
 
 pub shown-nothing : (n : ℕ) → all_shown (replicate n 4278190080) ≡ blanks n
 unfolding blanks
@@ -63,3 +64,32 @@ cut-step (word ∷ words) (suc i) k w h v inside e = ap (λ rest. word ∷ rest)
 pub length-cut : (k w h : ℕ) (words : List ℕ) → length (cut_words k w h words) ≡ length words
 length-cut k w h [] = refl
 length-cut k w h (word ∷ words) = ap suc (length-cut (suc k) w h words)
+
+-- colours behind the first pixel leave it
+coloured-cons : (k : ℕ) (colours : List ℕ) (pixel : Option ℕ) (pixels : List (Option ℕ)) →
+    coloured_from (suc k) colours (pixel ∷ pixels) ≡ pixel ∷ coloured_from k colours pixels
+coloured-cons k [] pixel pixels = refl
+coloured-cons k (colour ∷ colours) pixel pixels = coloured-cons (suc k) colours pixel (set pixels k (Some colour))
+
+-- words in the place of as many stand for their colours there
+pub shown-row : (k : ℕ) (colours words : List ℕ) → k + length colours ≤ length words → ((i : ℕ) → i < length colours → get_or colours i 0 ≤ 16777215) →
+    all_shown (take k words ++ colours ++ drop (k + length colours) words) ≡ coloured_from k colours (all_shown words)
+shown-row zero [] words fits few = refl
+shown-row zero (colour ∷ colours) [] fits few = absurd (omega (arith, fits))
+shown-row zero (colour ∷ colours) (word ∷ words) fits few =
+    let next : 0 + suc (length colours) ≡ suc (0 + length colours) = omega arith in
+    let first : colour ≤ 16777215 = few 0 (omega arith) in
+    ap (λ n. all_shown (take 0 (word ∷ words) ++ (colour ∷ colours) ++ drop n (word ∷ words))) next
+    ∙ ap (λ o. o ∷ all_shown (colours ++ drop (0 + length colours) words)) (shown-colour colour (omega (arith, first)))
+    ∙ ap (λ rest. Some colour ∷ rest) (shown-row zero colours words (omega (arith, fits)) (λ i h. few (suc i) (omega (arith, h))))
+    ∙ sym (coloured-cons 0 colours (Some colour) (all_shown words))
+shown-row (suc k) colours [] fits few = absurd (omega (arith, fits))
+shown-row (suc k) colours (word ∷ words) fits few =
+    let next : suc k + length colours ≡ suc (k + length colours) = omega arith in
+    ap (λ n. all_shown (take (suc k) (word ∷ words) ++ colours ++ drop n (word ∷ words))) next
+    ∙ ap (λ rest. shown word ∷ rest) (shown-row k colours words (omega (arith, fits)) few)
+    ∙ sym (coloured-cons k colours (shown word) (all_shown words))
+
+pub length-coloured : (k : ℕ) (colours : List ℕ) (pixels : List (Option ℕ)) → length (coloured_from k colours pixels) ≡ length pixels
+length-coloured k [] pixels = refl
+length-coloured k (colour ∷ colours) pixels = length-coloured (suc k) colours (set pixels k (Some colour)) ∙ length-set pixels k (Some colour)

@@ -1,5 +1,5 @@
 -- What each call does to the contents of all slots, pixel by pixel, and to which tiles are held.
-use Rattle.std.specs.Prelude.{ℕ, ◌≡◌, ◌+◌, ◌/◌, ◌<◌, ◌≤◌, true, not, ◌&&◌, ◌==◌, nat_lt, List, map, Option, Some, None, if◌then◌else◌}
+use Rattle.std.specs.Prelude.{ℕ, ◌≡◌, ◌+◌, ◌*◌, ◌/◌, ◌%◌, ◌^◌, ◌<◌, ◌≤◌, true, not, ◌&&◌, ◌==◌, nat_lt, List, [], ◌∷◌, map, Option, Some, None, if◌then◌else◌}
 use Rattle.desk_laws.specs.declared.limits.TheConstants.{TILE_SIDE}
 use Rattle.desk_laws.specs.Rows.{span}
 use Rattle.gui_num.specs.declared.Point.{Point}
@@ -8,7 +8,7 @@ use Rattle.gui_num.specs.Rects.{nat_of}
 use Rattle.tile_store.specs.declared.spot.Spot.{Spot}
 use Rattle.tile_store.specs.declared.shelf.Tile.{Tile}
 use Rattle.tile_store.specs.Spots.{spot_of}
-use Rattle.tile_store.specs.Held.{is_held, colour_at}
+use Rattle.tile_store.specs.Held.{is_held, colour_at, written}
 
 -- all pixels are as before
 abbrev pub KeepsAll : List Tile → List Tile → Type 0
@@ -28,6 +28,13 @@ KeepsHeld old new = (spot : Spot) → is_held spot old ≡ true → is_held spot
 abbrev pub ColoursOne : ℕ → Point → ℕ → List Tile → List Tile → Type 0
 ColoursOne slot p colour old new =
     (s x y : ℕ) → colour_at s x y new ≡ (if s == slot && x == nat_of p.x && y == nat_of p.y then Some colour else colour_at s x y old)
+
+-- the tiles once these pixels of a slot got the colours of these words, one after the other
+abbrev pub tiles_coloured : ℕ → List (ℕ × ℕ) → List ℕ → List Tile → List Tile
+tiles_coloured slot [] words held = held
+tiles_coloured slot (p ∷ ps) [] held = held
+tiles_coloured slot (p ∷ ps) (w ∷ ws) held =
+    tiles_coloured slot ps ws (written (spot_of slot (p.0 / 64, p.1 / 64)) (p.1 % 64 * 64 + p.0 % 64) (w % 2 ^ 24) held)
 
 -- the pixels of a slot outside its first w columns and h rows have none, and all others are as before
 abbrev pub CutsAway : ℕ → ℕ → ℕ → List Tile → List Tile → Type 0

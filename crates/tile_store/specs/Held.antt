@@ -10,7 +10,7 @@ use Rattle.desk_laws.specs.Rows.{span, grid}
 use Rattle.tile_store.specs.declared.spot.Spot.{Spot}
 use Rattle.tile_store.specs.declared.shelf.Tile.{Tile}
 use Rattle.tile_store.specs.Spots.{before, same, spot_of}
-use Rattle.tile_store.specs.Squares.{blank, has_pixel, cut_from}
+use Rattle.tile_store.specs.Squares.{blank, has_pixel, coloured_from, cut_from}
 
 -- how many tiles there are, and those that are held
 pub record TilesView : Type 0 where
@@ -96,6 +96,14 @@ written_in spot k colour t = if same t.spot spot then record t { square = slice_
 -- the tiles with a colour at a pixel of the one at a spot
 abbrev pub written : Spot → ℕ → ℕ → List Tile → List Tile
 written spot k colour held = map (written_in spot k colour) held
+
+-- a tile with these colours from a pixel on, if it lies at a spot
+abbrev pub row_written_in : Spot → ℕ → List ℕ → Tile → Tile
+row_written_in spot k colours t = if same t.spot spot then record t { square = coloured_from k colours t.square } else t
+
+-- the tiles with these colours from a pixel of the one at a spot on
+abbrev pub row_written : Spot → ℕ → List ℕ → List Tile → List Tile
+row_written spot k colours held = map (row_written_in spot k colours) held
 
 -- a tile without the pixels outside the first w columns and h rows of its slot, if it is a tile of this slot
 abbrev pub cut_tile : ℕ → ℕ → ℕ → Tile → Tile

@@ -1,5 +1,5 @@
 -- The pixels of a tile, row by row: a colour where something was read.
-use Rattle.std.specs.Prelude.{ℕ, suc, ◌/◌, ◌%◌, Bool, ◌&&◌, nat_lt, List, [], ◌∷◌, map, replicate, Option, Some, None, is_some, if◌then◌else◌}
+use Rattle.std.specs.Prelude.{ℕ, suc, ◌/◌, ◌%◌, Bool, ◌&&◌, nat_lt, List, [], ◌∷◌, map, replicate, Option, Some, None, is_some, if◌then◌else◌, slice_set}
 use Rattle.std.specs.List.{list_any}
 use Rattle.desk_laws.specs.declared.limits.TheConstants.{TILE_SIDE}
 use Rattle.tile_store.specs.declared.square.TheConstants.{PIXELS}
@@ -19,6 +19,11 @@ blanks n = replicate n None
 -- the pixels of a tile of which nothing was read
 abbrev pub blank : List (Option ℕ)
 blank = blanks PIXELS
+
+-- a tile's pixels with these colours in the place of as many, from the one with number k on
+abbrev pub coloured_from : ℕ → List ℕ → List (Option ℕ) → List (Option ℕ)
+coloured_from k [] pixels = pixels
+coloured_from k (colour ∷ colours) pixels = coloured_from (suc k) colours (slice_set pixels k (Some colour))
 
 -- whether some pixel has a colour
 abbrev pub has_pixel : List (Option ℕ) → Bool

@@ -3,7 +3,7 @@ ghost use Rattle.std.specs.Prelude.{◌≡◌, ℕ, ◌+◌, ◌-◌, ◌*◌, �
 ghost use Rattle.tile_store.specs.declared.shelf.Tile.{Tile};
 ghost use Rattle.tile_store.specs.declared.square.TheConstants.{PIXELS};
 ghost use Rattle.tile_store.specs.Spots.{before, same};
-ghost use Rattle.tile_store.specs.Held.{tile_at, is_held, pixel_in, rises, with_tile, written, swept, swept_at, cut_tile, is_left, blank_tile};
+ghost use Rattle.tile_store.specs.Held.{tile_at, is_held, pixel_in, rises, with_tile, written, row_written, swept, swept_at, cut_tile, is_left, blank_tile};
 ghost use Rattle.tile_store.specs.Contents.{colour_or};
 ghost use Rattle.tile_store.specs.Places.{IsPlaceFor, is_first};
 
@@ -129,6 +129,20 @@ pub(crate) fn write(held: &mut Vec<Tile>, spot: Spot, k: usize, colour: u32)
     let i = place_for(held, spot);
     let tile = &mut held[i];
     tile.square.set(k, colour);
+}
+
+// Gives pixels of a tile that is held, from the one with number k on, these colours.
+pub(crate) fn write_row(held: &mut Vec<Tile>, spot: Spot, k: usize, colours: &[u32])
+    requires rising { rises held.old.items ≡ true }
+    requires held { is_held spot held.old.items ≡ true }
+    requires pixels { k + length colours.now ≤ PIXELS }
+    requires colours { (i : ℕ) → i < length colours.now → slice_index colours.now i ≤ 16777215 }
+    ensures held { held.new.items ≡ row_written spot k colours.now held.old.items }
+    ensures capacity { vec_capacity held.new ≡ vec_capacity held.old }
+{
+    let i = place_for(held, spot);
+    let tile = &mut held[i];
+    tile.square.set_row(k, colours);
 }
 
 // Takes pixels for a tile at a spot, if there is none.

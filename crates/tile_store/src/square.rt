@@ -1,6 +1,6 @@
 // The pixels of one tile.
-ghost use Rattle.std.specs.Prelude.{◌≡◌, ℕ, ◌+◌, ◌-◌, ◌<◌, ◌≤◌, ◌^◌, length, take, drop, Some, None, IfOk, slice_index, slice_index_or, slice_set, vec_len, IsSome, IsTrue};
-ghost use Rattle.tile_store.specs.Squares.{blank, has_pixel, cut_from, cut_words, cut_word, is_colour, shown};
+ghost use Rattle.std.specs.Prelude.{◌≡◌, ℕ, ◌+◌, ◌-◌, ◌<◌, ◌≤◌, ◌^◌, length, take, drop, ◌++◌, Some, None, IfOk, slice_index, slice_index_or, slice_set, vec_len, IsSome, IsTrue};
+ghost use Rattle.tile_store.specs.Squares.{blank, has_pixel, coloured_from, cut_from, cut_words, cut_word, is_colour, shown};
 ghost use Rattle.tile_store.specs.Contents.{colour_or};
 ghost use Rattle.std.specs.List.{list_any};
 
@@ -86,6 +86,15 @@ impl Square {
         self.words[k] = colour;
     }
 
+    // Gives the pixels from the one with number k on these colours.
+    pub(crate) fn set_row(&mut self, k: usize, colours: &[u32])
+        requires pixels { k + length colours.now ≤ PIXELS }
+        requires colours { (i : ℕ) → i < length colours.now → slice_index colours.now i ≤ 16777215 }
+        ensures { self.new ≡ coloured_from k colours.now self.old }
+    {
+        put_words(&mut self.words, k, colours);
+    }
+
     // Forgets the pixels outside its first w columns and h rows.
     pub(crate) fn cut(&mut self, w: u32, h: u32)
         ensures { self.new ≡ cut_from 0 w h self.old }
@@ -127,6 +136,14 @@ fn some_colour(words: &[u32]) -> bool
     ensures { result ≡ list_any is_colour words.now }
 {
     words.iter().any(|word| *word < 0x100_0000)
+}
+
+// Puts these words in the place of as many, from the one with number k on.
+fn put_words(words: &mut Vec<u32>, k: usize, put: &[u32])
+    requires { k + length put.now ≤ length words.old.items }
+    ensures { words.new.items ≡ take k words.old.items ++ put.now ++ drop (k + length put.now) words.old.items }
+{
+    words[k..k + put.len()].copy_from_slice(put);
 }
 
 // Whether n words from the one with number k on are colours.

@@ -44,6 +44,23 @@ fn open(store: &mut Tiles, slot: u32, w: u16, h: u16) -> bool {
     true
 }
 
+// Puts three colours from a pixel on in its row, where they lie in one tile and there is one.
+fn three(store: &mut Tiles, slot: u32, x: u16, y: u16) -> bool {
+    let area = Rect {
+        x: i32::from(x),
+        y: i32::from(y),
+        w: 3,
+        h: 1,
+    };
+    if x % 64 > 61 || store.need(slot, area) > store.free() {
+        return false;
+    }
+    store.open(slot, area);
+    let colours = [0x0a0000, 0x0b0000, 0xffffff];
+    store.put_row(slot, u32::from(x), u32::from(y), &colours);
+    true
+}
+
 // The colour of a pixel.
 fn at(store: &Tiles, slot: u32, x: i32, y: i32) -> Option<u32> {
     store.at(slot, Point { x, y })
@@ -151,6 +168,24 @@ fn gives_tiles_back(rt: HostRuntime) -> Result<(), Fail> {
     store.clear();
     assert_eq!(rt; store.free(), 8);
     assert_eq!(rt; at(&store, 9, 70, 3), None);
+    Ok(())
+}
+
+#[test]
+fn puts_a_row_of_colours(rt: HostRuntime) -> Result<(), Fail> {
+    let mut store = Tiles::new(rt.alloc(), 8)?;
+    assert!(rt; colour(&mut store, 2, 68, 130, 0x00ff00));
+    assert!(rt; three(&mut store, 2, 65, 130));
+    assert_eq!(rt; store.free(), 7);
+    assert_eq!(rt; at(&store, 2, 64, 130), None);
+    assert_eq!(rt; at(&store, 2, 65, 130), Some(0x0a0000));
+    assert_eq!(rt; at(&store, 2, 66, 130), Some(0x0b0000));
+    assert_eq!(rt; at(&store, 2, 67, 130), Some(0xffffff));
+    assert_eq!(rt; at(&store, 2, 68, 130), Some(0x00ff00));
+    assert_eq!(rt; at(&store, 2, 65, 131), None);
+    assert!(rt; three(&mut store, 2, 125, 130));
+    assert_eq!(rt; at(&store, 2, 127, 130), Some(0xffffff));
+    assert!(rt; !three(&mut store, 2, 126, 130));
     Ok(())
 }
 

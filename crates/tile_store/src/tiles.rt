@@ -1,13 +1,13 @@
 // The store.
-ghost use Rattle.std.specs.Prelude.{◌≡◌, ◌≢◌, ℕ, ◌+◌, ◌-◌, ◌*◌, ◌/◌, ◌%◌, ◌<◌, ◌≤◌, ◌^◌, true, false, [], length, IfOk, pos, ◌≤ℤ◌, vec_capacity, vec_len, map, Some};
+ghost use Rattle.std.specs.Prelude.{◌≡◌, ◌≢◌, ℕ, ◌+◌, ◌-◌, ◌*◌, ◌/◌, ◌%◌, ◌<◌, ◌≤◌, ◌^◌, true, false, [], length, IfOk, pos, ◌≤ℤ◌, vec_capacity, vec_len, map, Some, slice_index};
 ghost use Rattle.gui_num.specs.Rects.{IsFit, nat_of};
 ghost use Rattle.desk_laws.specs.Rows.{span, grid};
 ghost use Rattle.tile_store.specs.declared.square.TheConstants.{PIXELS};
-ghost use Rattle.tile_store.specs.Spots.{spot_at, pixel_of};
+ghost use Rattle.tile_store.specs.Spots.{spot_of, spot_at, pixel_of};
 ghost use Rattle.tile_store.specs.Held.{TilesView, rises, are_whole, content, is_held, with_tile, opened, missing, tiles_along, tiles_met, written, swept, dropped, places_in_row};
-ghost use Rattle.tile_store.specs.Contents.{KeepsAll, HoldsAll, KeepsHeld, ColoursOne, CutsAway, Empties, row_colours};
+ghost use Rattle.tile_store.specs.Contents.{KeepsAll, HoldsAll, KeepsHeld, ColoursOne, CutsAway, Empties, tiles_coloured, row_colours};
 
-use crate::shelf::{Tile, add, give_back, has, read, read_part, sweep, write};
+use crate::shelf::{Tile, add, give_back, has, read, read_part, sweep, write, write_row};
 use crate::spot::Spot;
 use crate::square::{SIDE, Square};
 use desk_laws::TILE_SIDE;
@@ -133,6 +133,24 @@ impl Tiles {
         ensures stay { KeepsHeld self.old.held self.new.held }
     {
         write(&mut self.held, lies_in(slot, p), index_of(p), colour);
+    }
+
+    /// Gives the pixels of a slot from column `x` on in row `y` these colours, from left to right. They
+    /// lie in one tile, which is held.
+    pub fn put_row(&mut self, slot: u32, x: u32, y: u32, colours: &[u32])
+        requires held { is_held (spot_of slot (x / TILE_SIDE, y / TILE_SIDE)) self.old.held ≡ true }
+        requires columns { x % TILE_SIDE + length colours.now ≤ TILE_SIDE }
+        requires colours { (i : ℕ) → i < length colours.now → slice_index colours.now i ≤ 16777215 }
+        ensures put { self.new ≡ record self.old { held = tiles_coloured slot (places_in_row y x (length colours.now)) colours.now self.old.held } }
+        ensures stay { KeepsHeld self.old.held self.new.held }
+    {
+        let spot = Spot {
+            slot,
+            column: x / TILE_SIDE,
+            row: y / TILE_SIDE,
+        };
+        let k = y as usize % SIDE * SIDE + x as usize % SIDE;
+        write_row(&mut self.held, spot, k, colours);
     }
 
     /// The colour of a pixel of a slot, `None` exactly where nothing was put there since it was last

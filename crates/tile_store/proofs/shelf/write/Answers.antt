@@ -1,9 +1,9 @@
-use Rattle.std.proofs.Common.{◌≡◌, ◌∙◌, List, true, length, ap, subst, arith}
+use Rattle.std.proofs.Common.{◌≡◌, ◌∙◌, List, Some, true, length, set, ap, subst, arith}
 use Rattle.tile_store.specs.declared.shelf.Tile.{Tile}
 use Rattle.tile_store.specs.Spots.{same}
 use Rattle.tile_store.specs.Held.{pixel_in}
 use Rattle.tile_store.specs.Places.{IsPlaceFor}
-use Rattle.tile_store.proofs.HeldLemmas.{held-here, held-inside, is-first-get, written-here, found-set}
+use Rattle.tile_store.proofs.HeldLemmas.{held-here, held-inside, is-first-get, changed-here, found-set}
 use Rattle.tile_store.proofs.shelf.write.Goals as goal
 
 pub index_mut-tile-requires : goal.index_mut-tile-requires
@@ -19,7 +19,7 @@ returns-clause-held c =
     let P : List Tile → Type 0 = λ held. IsPlaceFor c.args.spot held c.place_for-i.result in
     let place = subst P c.deref.ensures.value c.place_for-i.ensures in
     let first = held-here c.args.spot c.args.held.now.items c.place_for-i.result c.requires.rising place ∙ c.requires.held in
-    written-here c.args.spot c.args.k c.args.colour c.args.held.now.items c.place_for-i.result c.index_mut-tile.result.now c.set.new.self
+    changed-here c.args.spot (λ square. set square c.args.k (Some c.args.colour)) c.args.held.now.items c.place_for-i.result c.index_mut-tile.result.now c.set.new.self
     c.requires.rising place first c.index_mut-tile.ensures.value c.set.ensures.pixels
 
 pub returns-clause-read : goal.returns-clause-read
