@@ -1,5 +1,5 @@
 -- Stores in the order in which they are due.
-use Rattle.std.proofs.Common.{◌≡◌, ℕ, zero, suc, ◌+◌, ◌<◌, ◌≤◌, Bool, true, false, cond, not, nat_le, List, [], ◌∷◌, length, filter, remove, slice_index_or, refl, sym, ap, ◌∙◌, arith}
+use Rattle.std.proofs.Common.{◌≡◌, ℕ, zero, suc, ◌+◌, ◌<◌, ◌≤◌, Bool, true, false, cond, not, nat_le, List, [], ◌∷◌, length, filter, remove, slice_index_or, refl, subst, sym, ap, ◌∙◌, arith}
 use Rattle.desk_laws.specs.Frames.{Waiting, put_by_due, by_due, is_due, still_waiting, write, write_all, settled_words}
 use Rattle.frame_pool.specs.Regions.{no_store, due_at, IsFirst, NotBefore}
 
@@ -84,6 +84,16 @@ all-wait loads [] h = refl
 all-wait loads (s ∷ stores) h =
     ap (λ b. cond (not b) (s ∷ still_waiting loads stores) (still_waiting loads stores)) (le-no s.due loads (omega (arith, h.0)))
     ∙ ap (λ ys. s ∷ ys) (all-wait loads stores h.1)
+
+-- and what is said of each store holds of each index
+pub not-before-at : (n : ℕ) (stores : List Waiting) (k : ℕ) → k < length stores → NotBefore n stores → n ≤ due_at stores k
+not-before-at n [] k below h = absurd (omega arith)
+not-before-at n (s ∷ stores) zero below h = h.0
+not-before-at n (s ∷ stores) (suc k) below h = not-before-at n stores k (omega (arith, below)) h.1
+
+-- where there is no store
+pub not-before-none : (n : ℕ) (stores : List Waiting) → stores ≡ [] → NotBefore n stores
+not-before-none n stores none = subst (NotBefore n) (sym none) tt
 
 -- a place of a list holds the same by any default
 pub any-default : (stores : List Waiting) (at : ℕ) (a b : Waiting) → at < length stores → slice_index_or stores at a ≡ slice_index_or stores at b

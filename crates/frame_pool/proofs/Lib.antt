@@ -7,3 +7,4 @@ pub mod WalkSteps
 pub mod WalkEnds
 pub mod HeapAnswers
 pub mod CellLemmas
+pub mod RunLemmas

@@ -1,4 +1,5 @@
 pub mod Cells
 pub mod Ports
 pub mod Regions
+pub mod Runs
 pub mod Tapes

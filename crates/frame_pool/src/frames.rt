@@ -1,10 +1,11 @@
 // The frames of one guest, with the stores that wait.
-ghost use Rattle.std.specs.Prelude.{◌≡◌, ◌+◌, ◌<◌, ◌≤◌, ◌%◌, length, IfOk};
-ghost use Rattle.desk_laws.specs.Frames.{load as load_of, store as store_of};
+ghost use Rattle.std.specs.Prelude.{◌≡◌, ◌+◌, ◌-◌, ◌<◌, ◌≤◌, ◌%◌, length, IfOk};
+ghost use Rattle.desk_laws.specs.Frames.{load as load_of, store as store_of, write_words};
 ghost use Rattle.desk_laws.specs.declared.limits.TheConstants.{PAGE_BYTES, PAGE_WORDS};
 ghost use Rattle.frame_pool.specs.Ports.{fresh};
+ghost use Rattle.frame_pool.specs.Runs.{run_of};
 
-use crate::waiting::{Store, put, settle};
+use crate::waiting::{Store, put, quiet_loads, settle};
 use crate::{Glass, Place};
 use arrayvec::ArrayVec;
 use desk_laws::MAX_WAITING_STORES;
@@ -61,6 +62,42 @@ impl Frames {
         let word = self.glass.load(place);
         self.loads = self.loads.saturating_add(1);
         word
+    }
+
+    // Loads the words of a page from a place on, as many as there is room for.
+    pub(crate) fn load_run(&mut self, place: Place, words: &mut [u32])
+        requires page { place.page < self.old.pages }
+        requires end { place.word + length words.old ≤ PAGE_WORDS }
+        ensures words { words.new ≡ (run_of self.old.state place.page place.word (length words.old)).words }
+        ensures after { self.new ≡ record self.old { state = (run_of self.old.state place.page place.word (length words.old)).port } }
+    {
+        let mut done = 0;
+        while done < words.len() {
+            let at = Place {
+                page: place.page,
+                word: place.word + done as u32,
+            };
+            done += self.load_part(at, words, done);
+        }
+    }
+
+    // Loads words into the room behind the first `done` words, so many that no store falls due among them,
+    // and answers how many.
+    fn load_part(&mut self, place: Place, words: &mut [u32], done: usize) -> usize
+        requires page { place.page < self.old.pages }
+        requires room { done < length words.old }
+        requires end { place.word + (length words.old - done) ≤ PAGE_WORDS }
+        ensures some { 0 < result }
+        ensures few { done + result ≤ length words.old }
+        ensures words { words.new ≡ write_words words.old done (run_of self.old.state place.page place.word result).words }
+        ensures after { self.new ≡ record self.old { state = (run_of self.old.state place.page place.word result).port } }
+    {
+        settle(&mut self.glass, &mut self.waiting, self.loads);
+        let n = quiet_loads(&self.waiting, self.loads, words.len() - done);
+        let end = done + n;
+        self.glass.load_run(place, &mut words[done..end]);
+        self.loads = self.loads.saturating_add(n as u64);
+        n
     }
 
     // Writes the stores that are due, and then the bytes, unless they have to wait and may.

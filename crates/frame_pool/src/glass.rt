@@ -1,6 +1,7 @@
 // The frames of one guest.
-ghost use Rattle.std.specs.Prelude.{◌≡◌, ◌+◌, ◌*◌, ◌<◌, length, slice_index, slice_set, IfOk};
+ghost use Rattle.std.specs.Prelude.{◌≡◌, ◌+◌, ◌*◌, ◌<◌, ◌≤◌, length, slice_index, slice_set, IfOk};
 ghost use Rattle.frame_pool.specs.Regions.{zero_words};
+ghost use Rattle.frame_pool.specs.Runs.{words_from};
 
 use crate::Place;
 use crate::region::Region;
@@ -42,6 +43,16 @@ impl Glass {
         ensures { result ≡ slice_index self.now (PAGE_WORDS * place.page + place.word) }
     {
         self.region.load(index_of(place))
+    }
+
+    /// The words of one page from this place on, as many as `words` has room for: one read each through the raw
+    /// pointer, in order.
+    pub fn load_run(&self, place: Place, words: &mut [u32])
+        requires end { place.word + length words.old ≤ PAGE_WORDS }
+        requires page { PAGE_WORDS * place.page + PAGE_WORDS ≤ length self.now }
+        ensures { words.new ≡ words_from self.now (PAGE_WORDS * place.page + place.word) (length words.old) }
+    {
+        self.region.load_run(index_of(place), words);
     }
 
     /// Writes the word at this place, which lies in the pages.

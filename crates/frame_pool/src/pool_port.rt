@@ -2,6 +2,7 @@
 ghost use Rattle.std.specs.Prelude.{◌≡◌, ℕ, ◌+◌, ◌<◌, ◌≤◌, ◌%◌, length, replicate, slice_index_or, IfOk};
 ghost use Rattle.desk_laws.specs.Frames.{load as load_of, store as store_of};
 ghost use Rattle.frame_pool.specs.Ports.{AreZeros, fresh, no_frames};
+ghost use Rattle.frame_pool.specs.Runs.{run_of};
 
 use crate::frames::Frames;
 use crate::{FramePort, Place};
@@ -56,6 +57,10 @@ impl FramePort for PoolPort {
 
     fn load(&mut self, guest: u32, place: Place) -> u32 {
         self.frames[guest as usize].load(place)
+    }
+
+    fn load_run(&mut self, guest: u32, place: Place, words: &mut [u32]) {
+        self.frames[guest as usize].load_run(place, words);
     }
 
     fn store(&mut self, guest: u32, delay: u16, page: u32, offset: u32, bytes: &[u8]) {

@@ -2,6 +2,7 @@
 ghost use Rattle.std.specs.Prelude.{◌≡◌, ℕ, ◌+◌, ◌<◌, ◌≤◌, ◌%◌, length};
 ghost use Rattle.desk_laws.specs.Frames.{PortState, load as load_of, store as store_of};
 ghost use Rattle.frame_pool.specs.Ports.{ChangesFrames};
+ghost use Rattle.frame_pool.specs.Runs.{run_of};
 ghost use Rattle.desk_laws.specs.declared.limits.TheConstants.{PAGE_BYTES, PAGE_WORDS};
 
 use crate::Place;
@@ -26,6 +27,27 @@ pub trait FramePort {
         ensures value { result ≡ (load_of (state self.old guest) place.page place.word).0 }
         ensures after { state self.new guest ≡ (load_of (state self.old guest) place.page place.word).1 }
         ensures alone { ChangesFrames guests pages state guest self.old self.new };
+
+    /// The words of one page from a place on, as many as `words` has room for: as that many loads, in order
+    /// and each of its word once.
+    fn load_run(&mut self, guest: u32, place: Place, words: &mut [u32])
+        requires guest { guest < guests self.old }
+        requires page { place.page < pages self.old }
+        requires end { place.word + length words.old ≤ PAGE_WORDS }
+        ensures words { words.new ≡ (run_of (state self.old guest) place.page place.word (length words.old)).words }
+        ensures after { state self.new guest ≡ (run_of (state self.old guest) place.page place.word (length words.old)).port }
+        ensures alone { ChangesFrames guests pages state guest self.old self.new }
+    {
+        for k in 0..words.len() {
+            words[k] = self.load(
+                guest,
+                Place {
+                    page: place.page,
+                    word: place.word + k as u32,
+                },
+            );
+        }
+    }
 
     /// Changes the frames of a guest, counted from 0: the bytes are written to a page, from the offset
     /// on, before the load that comes after `delay` further loads of this guest. The bytes and the

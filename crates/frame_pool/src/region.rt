@@ -1,5 +1,7 @@
 // A block of words that are all written.
-ghost use Rattle.std.specs.Prelude.{◌≡◌, ◌*◌, ◌^◌, ◌<◌, Some, length, replicate, slice_index, slice_set, IfOk};
+ghost use Rattle.std.specs.Prelude.{◌≡◌, ◌+◌, ◌*◌, ◌^◌, ◌<◌, ◌≤◌, Some, length, replicate, slice_index, slice_set, IfOk};
+ghost use Rattle.frame_pool.specs.Cells.{numbers, AllWritten};
+ghost use Rattle.frame_pool.specs.Runs.{words_from};
 
 use crate::cells::Cells;
 use std::alloc::{AllocError, Global};
@@ -50,12 +52,32 @@ impl Region {
         self.cells.load(at)
     }
 
+    // The words from this index on, as many as there is room for. Each is read once.
+    pub(crate) fn load_run(&self, at: usize, words: &mut [u32])
+        requires { at + length words.old ≤ length self.now }
+        ensures { words.new ≡ words_from self.now at (length words.old) }
+    {
+        read_run(&self.cells, at, words);
+    }
+
     // Writes the word with this index.
     pub(crate) fn store(&mut self, at: usize, word: u32)
         requires { at < length self.old }
         ensures { self.new ≡ slice_set self.old at word }
     {
         self.cells.store(at, word);
+    }
+}
+
+// Reads the words from an index on, as many as there is room for: one read each, in order.
+fn read_run(cells: &Cells, at: usize, words: &mut [u32])
+    requires small { length cells.now.words * 4 < 2 ^ 63 }
+    requires filled { AllWritten cells.now.words }
+    requires end { at + length words.old ≤ length cells.now.words }
+    ensures { words.new ≡ words_from (numbers cells.now.words) at (length words.old) }
+{
+    for k in 0..words.len() {
+        words[k] = cells.load(at + k);
     }
 }
 

@@ -1,5 +1,5 @@
 // Frames of one or two guests, each of one page, with memory in plenty.
-ghost use Rattle.std.specs.Prelude.{◌<◌};
+ghost use Rattle.std.specs.Prelude.{◌<◌, ◌≤◌};
 ghost use Rattle.frame_pool.specs.Ports.{KeepsExtent};
 
 use super::*;
@@ -13,6 +13,22 @@ fn word<P: FramePort>(port: &mut P, guest: u32, word: u32) -> u32
     ensures { KeepsExtent P.guests P.pages port.old port.new }
 {
     port.load(guest, Place { page: 0, word })
+}
+
+// Three words of the page of a guest, from this one on, as one number: the first word times 100, the next times
+// 10, and the last.
+fn three<P: FramePort>(port: &mut P, guest: u32, word: u32) -> u32
+    requires guest { guest < P.guests port.old }
+    requires page { 0 < P.pages port.old }
+    requires word { word ≤ 1021 }
+    ensures { KeepsExtent P.guests P.pages port.old port.new }
+{
+    let mut words = [5, 5, 5];
+    port.load_run(guest, Place { page: 0, word }, &mut words);
+    words[0]
+        .wrapping_mul(100)
+        .wrapping_add(words[1].wrapping_mul(10))
+        .wrapping_add(words[2])
 }
 
 // Writes three equal words at the start of the page of a guest.
@@ -101,6 +117,26 @@ fn due_stores_come_in_order(rt: HostRuntime) -> Result<(), Fail> {
     Ok(())
 }
 
+// A store falls due at the second word of a run, at its last, and at its first; then one at the second and one
+// at the last.
+#[test]
+fn stores_fall_due_in_a_run(rt: HostRuntime) -> Result<(), Fail> {
+    let mut port = PoolPort::new(rt.alloc(), 1, 1)?;
+    store(&mut port, 0, 1, 7);
+    assert_eq!(rt; three(&mut port, 0, 0), 77);
+    store(&mut port, 0, 2, 8);
+    assert_eq!(rt; three(&mut port, 0, 0), 778);
+    store(&mut port, 0, 1, 9);
+    assert_eq!(rt; word(&mut port, 0, 0), 8);
+    assert_eq!(rt; three(&mut port, 0, 0), 999);
+    store(&mut port, 0, 2, 2);
+    store(&mut port, 0, 1, 1);
+    assert_eq!(rt; three(&mut port, 0, 0), 912);
+    assert_eq!(rt; three(&mut port, 0, 1021), 0);
+    assert_eq!(rt; three(&mut port, 0, 2), 200);
+    Ok(())
+}
+
 // With 64 stores waiting the next one is written at once; once they are written it may wait again.
 #[test]
 fn no_more_than_64_wait(rt: HostRuntime) -> Result<(), Fail> {
@@ -149,6 +185,9 @@ fn a_tape_is_read_to_its_end(rt: HostRuntime) -> Result<(), Fail> {
     assert_eq!(rt; word(&mut port, 1, 0), 3);
     assert_eq!(rt; port.left(1), 0);
     assert_eq!(rt; word(&mut port, 1, 0), 0);
+    port.push(1, 4)?;
+    port.push(1, 6)?;
+    assert_eq!(rt; three(&mut port, 1, 9), 460);
     assert_eq!(rt; port.left(1), 0);
     Ok(())
 }

@@ -82,11 +82,28 @@ fn due_first(waiting: &[Store], loads: u64) -> Option<usize>
     Some(first)
 }
 
+// How many loads, of at most so many, come before the next store is due, where there were so many loads and
+// none is due.
+pub(crate) fn quiet_loads(waiting: &[Store], loads: u64, most: usize) -> usize
+    requires some { 0 < most }
+    requires settled { NotBefore (loads + 1) waiting.now }
+    ensures some { 0 < result }
+    ensures few { result ≤ most }
+    ensures quiet { NotBefore (loads + result) waiting.now }
+{
+    if waiting.is_empty() {
+        return most;
+    }
+    let due = due_of(waiting, first_of(waiting));
+    most.min((due - loads) as usize)
+}
+
 // Writes the stores that are due once there were so many loads, and keeps the others.
 pub(crate) fn settle(glass: &mut Glass, waiting: &mut Vec<Store>, loads: u64)
     requires { AllLieIn (length glass.old) waiting.old.items }
     ensures words { glass.new ≡ settled_words glass.old loads waiting.old.items }
     ensures waiting { waiting.new.items ≡ still_waiting loads waiting.old.items }
+    ensures settled { NotBefore (loads + 1) waiting.new.items }
     ensures lie { AllLieIn (length glass.new) waiting.new.items }
     ensures few { length waiting.new.items ≤ length waiting.old.items }
     ensures len { length glass.new ≡ length glass.old }
