@@ -14,3 +14,5 @@ pub mod EditLemmas
 pub mod EmptyLemmas
 pub mod AddLemmas
 pub mod RemoveLemmas
+pub mod KeyLemmas
+pub mod IndexLemmas

@@ -2,3 +2,4 @@ pub mod Parts
 pub mod Entries
 pub mod Kept
 pub mod Lending
+pub mod Keys

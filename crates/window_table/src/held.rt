@@ -15,20 +15,6 @@ pub(crate) struct Held {
     pub(crate) pane: Pane,
 }
 
-// The first of these slots that holds this window, if one does.
-pub(crate) fn slot_with(held: &Slab<Held>, order: &[u32], window: u32) -> Option<u32>
-    requires { (slot : ℕ) → among slot order.now ≡ true → is_some (get held.now slot) ≡ true }
-    ensures { result ≡ find (holds held.now window) order.now }
-{
-    for k in 0..order.len() {
-        let slot = order[k];
-        if held[slot as usize].window == window {
-            return Some(slot);
-        }
-    }
-    None
-}
-
 // No window is named as parent or transient any more.
 fn forget_name(name: &mut u32, window: u32)
     ensures { name.new ≡ name_without window name.old }

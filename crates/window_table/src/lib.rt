@@ -2,6 +2,7 @@
 #![tactic(auto)]
 
 mod held;
+mod index;
 mod pane;
 mod ref_lists;
 mod table;

@@ -6,7 +6,8 @@ ghost use Rattle.desk_laws.specs.Effects as effects;
 ghost use Rattle.window_table.specs.Entries.{Entry, AreApart, entry_at, entry_with, updated, removed, new_pane, new_entry, plain_rows, with_dump, size_of_dump, refs_in};
 ghost use Rattle.window_table.specs.Lending.{LendsPane};
 
-use crate::held::{Held, forget, slot_with};
+use crate::held::{Held, forget};
+use crate::index::{Key, put_in, slot_in, take_out};
 use crate::ref_lists::RefLists;
 use crate::{DumpSize, Pane};
 use arrayvec::ArrayVec;
@@ -24,6 +25,7 @@ pub struct Table {
     held: Slab<Held>,
     refs: RefLists,
     order: Vec<u32>,
+    keys: Vec<Key>,
 }
 
 impl Model for Table {
@@ -31,12 +33,13 @@ impl Model for Table {
     ghost use Rattle.desk_laws.specs.declared.limits.TheConstants.{MAX_WINDOWS};
     ghost use Rattle.window_table.specs.Entries.{TableView};
     ghost use Rattle.window_table.specs.Kept.{entries_of, IsKept};
+    ghost use Rattle.window_table.specs.Keys.{IsIndex};
 
     ghost Value = { TableView };
 
     ghost view = { λ t. record { pages = t.refs.pages; entries = entries_of t.held t.refs.lists t.order.items } };
 
-    ghost invariant = { λ t. IsKept t.held t.refs.lists t.order.items × ((vec_capacity t.order ≡ MAX_WINDOWS) × (sum_by length t.refs.lists ≤ t.refs.pages)) };
+    ghost invariant = { λ t. IsKept t.held t.refs.lists t.order.items × ((vec_capacity t.order ≡ MAX_WINDOWS) × ((sum_by length t.refs.lists ≤ t.refs.pages) × (IsIndex (entries_of t.held t.refs.lists t.order.items) t.keys.items × (MAX_WINDOWS ≤ vec_capacity t.keys)))) };
 }
 
 impl Table {
@@ -51,7 +54,13 @@ impl Table {
         }
         let refs = RefLists::new(alloc, MAX_WINDOWS as usize, pages)?;
         let order = Vec::with_capacity(alloc, MAX_WINDOWS as usize)?;
-        Ok(Table { held, refs, order })
+        let keys = Vec::with_capacity(alloc, MAX_WINDOWS as usize)?;
+        Ok(Table {
+            held,
+            refs,
+            order,
+            keys,
+        })
     }
 
     /// Adds a window that the table doesn't have, while there are fewer than `MAX_WINDOWS`, as the last, and
@@ -70,6 +79,7 @@ impl Table {
         };
         let slot = self.held.insert_reserved(held) as u32;
         self.order.push_reserved(slot);
+        put_in(&mut self.keys, window, slot);
         slot
     }
 
@@ -82,7 +92,7 @@ impl Table {
         ensures few { length self.now.entries ≤ MAX_WINDOWS }
         ensures held { (other : ℕ) → effects.refs_besides other (plain_rows self.now.entries) ≤ self.now.pages }
     {
-        slot_with(&self.held, &self.order, window)
+        slot_in(&self.keys, window)
     }
 
     /// How many windows there are, at most `MAX_WINDOWS`.
@@ -155,6 +165,7 @@ impl Table {
         let held = self.held.remove(slot as usize);
         self.refs.empty(slot as usize);
         leave(&mut self.order, slot);
+        take_out(&mut self.keys, held.window);
         forget(&mut self.held, held.window);
     }
 
@@ -190,6 +201,7 @@ impl Table {
         self.held.clear();
         self.refs.clear();
         self.order.clear();
+        self.keys.clear();
     }
 }
 
@@ -236,7 +248,7 @@ impl Ids for Table {
     }
 
     fn refs_besides(&self, window: u32) -> u32 {
-        match slot_with(&self.held, &self.order, window) {
+        match slot_in(&self.keys, window) {
             Some(slot) => self.refs.total() - self.refs.count(slot as usize),
             None => self.refs.total(),
         }

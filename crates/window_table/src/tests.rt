@@ -172,3 +172,33 @@ fn keeps_references(rt: HostRuntime) -> Result<(), Fail> {
     assert_eq!(rt; shown(&table, 1), None);
     Ok(())
 }
+
+// Puts these windows in this order.
+fn put_all(table: &mut Table, windows: &[u32]) {
+    for window in windows {
+        put(table, *window, 0);
+    }
+}
+
+// Whether each of these windows is found at a slot of its own.
+fn finds_all(table: &Table, windows: &[u32]) -> bool {
+    for window in windows {
+        if shown(table, *window) != Some((*window, None)) {
+            return false;
+        }
+    }
+    true
+}
+
+#[test]
+fn finds_windows_in_any_order(rt: HostRuntime) -> Result<(), Fail> {
+    let mut table = Table::new(rt.alloc(), 8)?;
+    put_all(&mut table, &[70, 20, 90, 0xffff_ffff, 10]);
+    assert!(rt; finds_all(&table, &[10, 20, 70, 90, 0xffff_ffff]));
+    assert!(rt; take(&mut table, 20));
+    assert!(rt; table.slot_of(20).is_none());
+    put_all(&mut table, &[80, 5]);
+    assert!(rt; finds_all(&table, &[5, 10, 70, 80, 90, 0xffff_ffff]));
+    assert_eq!(rt; nth(&table, 5), Some(5));
+    Ok(())
+}

@@ -1,8 +1,10 @@
-use Rattle.std.proofs.Common.{◌≡◌, ◌<◌, false, [], ◌∷◌, ◌++◌, is_some, None, length, subst, sym, arith, ap, ◌∙◌}
+use Rattle.std.proofs.Common.{◌≡◌, ◌<◌, false, [], ◌∷◌, ◌++◌, is_some, Some, None, length, subst, sym, arith, ap, ◌∙◌}
 use Rattle.std.proofs.lemmas.List.{length-map}
 use Rattle.window_table.specs.Entries.{entry_at, entry_with, new_entry}
-use Rattle.window_table.specs.Kept.{IsKept, entry_in, entries_of}
+use Rattle.window_table.specs.Kept.{IsKept, entry_of, entry_in, entries_of}
 use Rattle.window_table.specs.declared.held.Held.{Held}
+use Rattle.window_table.specs.Keys.{IsIndex}
+use Rattle.window_table.proofs.IndexLemmas.{index-added}
 use Rattle.window_table.proofs.AddLemmas.{kept-add, entries-add, new-free}
 use Rattle.window_table.proofs.table.Table.add.Goals as goal
 
@@ -23,7 +25,21 @@ invariant_of-self c =
           (omega (arith, c.insert_reserved-slot.ensures.key_in_range, c.insert_reserved-slot.ensures.capacity, kept.capacity))
           (omega (arith, room, length-map t.order.items (entry_in t.held t.refs.lists)))
           unknown),
-      (c.push_reserved.ensures.capacity ∙ c.self.invariant.1.0, c.self.invariant.1.1),
+      (
+        c.push_reserved.ensures.capacity ∙ c.self.invariant.1.0,
+        (
+          c.self.invariant.1.1.0,
+          (
+            subst (λ o. IsIndex (entries_of c.insert_reserved-slot.new.self t.refs.lists o) c.put_in.new.keys.items) (sym order)
+                (subst (λ es. IsIndex es c.put_in.new.keys.items)
+                (sym (entries-add t.held c.insert_reserved-slot.new.self t.refs.lists t.order.items c.insert_reserved-slot.result h kept
+                c.insert_reserved-slot.ensures.was_vacant c.insert_reserved-slot.ensures.updates))
+                (index-added (entries_of t.held t.refs.lists t.order.items) (entry_of c.insert_reserved-slot.result (Some h) [])
+                t.keys.items c.put_in.new.keys.items c.self.invariant.1.1.1.0 unknown c.put_in.ensures.rising c.put_in.ensures.len c.put_in.ensures.slots)),
+            omega (arith, c.put_in.ensures.capacity, c.self.invariant.1.1.1.1),
+          ),
+        ),
+      ),
     )
 
 pub returns-clause-vacant : goal.returns-clause-vacant

@@ -1,5 +1,7 @@
 use Rattle.std.proofs.Common.{◌≡◌, [], length, sum_by, subst, sym, arith, ap, ◌∙◌}
-use Rattle.window_table.specs.Kept.{IsKept}
+use Rattle.window_table.specs.Kept.{IsKept, entries_of}
+use Rattle.window_table.specs.Keys.{IsIndex}
+use Rattle.window_table.proofs.IndexLemmas.{index-none}
 use Rattle.window_table.specs.Parts.{no_lists}
 use Rattle.window_table.proofs.EmptyLemmas.{kept-none, zeros-none}
 use Rattle.window_table.proofs.table.Table.clear.Goals as goal
@@ -14,6 +16,13 @@ invariant_of-self c =
           (kept-none c.clear.new.self c.clear-2.new.self.lists c.clear.ensures.empty (c.clear.ensures.capacity ∙ kept.capacity) lists),
       (
         c.clear-3.ensures.capacity ∙ c.self.invariant.1.0,
-        omega (arith, ap (λ ls. sum_by length ls) lists, zeros-none 1024),
+        (
+          omega (arith, ap (λ ls. sum_by length ls) lists, zeros-none 1024),
+          (
+            subst (λ o. IsIndex (entries_of c.clear.new.self c.clear-2.new.self.lists o) c.clear-4.new.self.items) (sym none)
+                (index-none c.clear-4.new.self.items c.clear-4.ensures.items),
+            omega (arith, c.clear-4.ensures.capacity, c.self.invariant.1.1.1.1),
+          ),
+        ),
       ),
     )

@@ -2,6 +2,8 @@ use Rattle.std.proofs.Common.{Some, IsSome, option_map, subst, sym, ap, refl, 鈼
 use Rattle.window_table.specs.Entries.{entry_at, updated, with_pane}
 use Rattle.window_table.specs.Kept.{entries_of, pane_in}
 use Rattle.window_table.proofs.FindLemmas.{at-among, at-is}
+use Rattle.window_table.specs.Keys.{IsIndex}
+use Rattle.window_table.proofs.IndexLemmas.{index-updated}
 use Rattle.window_table.proofs.EditLemmas.{kept-pane, entries-pane}
 use Rattle.window_table.proofs.table.Table.get_mut.Goals as goal
 
@@ -23,7 +25,21 @@ invariant_of-self-lent c =
     subst (位 v. IsSome (entry_at c.args.slot v.entries)) (sym c.self.view_is) c.requires in
     let here = at-among t.held t.refs.lists c.args.slot t.order.items some in
     let is = at-is t.held t.refs.lists c.args.slot t.order.items some in
-    位 w. (kept-pane t.held t.refs.lists t.order.items c.args.slot c.index_mut-held.result.now kept here c.index_mut-held.ensures.value w, c.self.invariant.1)
+    位 w. (
+      kept-pane t.held t.refs.lists t.order.items c.args.slot c.index_mut-held.result.now kept here c.index_mut-held.ensures.value w,
+      (
+        c.self.invariant.1.0,
+        (
+          c.self.invariant.1.1.0,
+          (
+            subst (位 es. IsIndex es t.keys.items)
+                (sym (entries-pane t.held t.refs.lists t.order.items c.args.slot c.index_mut-held.result.now kept here c.index_mut-held.ensures.value w))
+                (index-updated c.args.slot (with_pane w) (位 e. refl) (位 e. refl) (entries_of t.held t.refs.lists t.order.items) t.keys.items c.self.invariant.1.1.1.0),
+            c.self.invariant.1.1.1.1,
+          ),
+        ),
+      ),
+    )
 
 pub returns : goal.returns
 returns c =

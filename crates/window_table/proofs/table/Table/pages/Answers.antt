@@ -8,4 +8,4 @@ pub returns-clause-held : goal.returns-clause-held
 returns-clause-held c =
     let t = c.self.inside in
     subst (λ v. (other : ℕ) → refs_besides other (plain_rows v.entries) ≤ v.pages) c.self.view_is
-    (λ other. let le = besides-le t.held t.refs.lists t.order.items c.self.invariant.0 other in omega (arith, le, c.self.invariant.1.1))
+    (λ other. let le = besides-le t.held t.refs.lists t.order.items c.self.invariant.0 other in omega (arith, le, c.self.invariant.1.1.0))

@@ -1,0 +1,95 @@
+// The windows of a table in the order of their ids: one is found by halving.
+ghost use Rattle.std.specs.Prelude.{◌≡◌, ℕ, ◌+◌, ◌<◌, ◌≤◌, ◌==◌, true, length, drop, is_some, Some, None, vec_len, vec_capacity, if◌then◌else◌};
+ghost use Rattle.std.specs.List.{insert, remove};
+ghost use Rattle.window_table.specs.Keys.{IsPlaceFor, RiseFrom, first_slot, slot_in};
+
+// A window's id, and its slot.
+#[derive(Clone, Copy)]
+pub(crate) struct Key {
+    pub(crate) window: u32,
+    pub(crate) slot: u32,
+}
+
+// How many keys are of lower windows.
+fn place_for(keys: &[Key], window: u32) -> usize
+    ensures { IsPlaceFor window keys.now result }
+{
+    let mut low = 0;
+    let mut high = keys.len();
+    while low < high {
+        let middle = low + (high - low) / 2;
+        if keys[middle].window < window {
+            low = middle + 1;
+        } else {
+            high = middle;
+        }
+    }
+    low
+}
+
+// The slot of the key at a place, if there is one and it is this window's.
+fn slot_at(keys: &[Key], i: usize, window: u32) -> Option<u32>
+    ensures { result ≡ first_slot window (drop i keys.now) }
+{
+    if i < keys.len() && keys[i].window == window {
+        Some(keys[i].slot)
+    } else {
+        None
+    }
+}
+
+// The slot of a window, if it has a key.
+pub(crate) fn slot_in(keys: &[Key], window: u32) -> Option<u32>
+    requires { RiseFrom 0 keys.now }
+    ensures { result ≡ slot_in window keys.now }
+{
+    slot_at(keys, place_for(keys, window), window)
+}
+
+// Adds the key of a window that has none.
+pub(crate) fn put_in(keys: &mut Vec<Key>, window: u32, slot: u32)
+    requires rising { RiseFrom 0 keys.old.items }
+    requires unknown { slot_in window keys.old.items ≡ None }
+    requires room { vec_len keys.old < vec_capacity keys.old }
+    ensures rising { RiseFrom 0 keys.new.items }
+    ensures slots { (other : ℕ) → slot_in other keys.new.items ≡ (if window == other then Some slot else slot_in other keys.old.items) }
+    ensures len { length keys.new.items ≡ length keys.old.items + 1 }
+    ensures capacity { vec_capacity keys.old ≤ vec_capacity keys.new }
+{
+    let i = place_for(keys, window);
+    insert_at(keys, i, Key { window, slot });
+}
+
+// Puts a key at a place.
+fn insert_at(keys: &mut Vec<Key>, i: usize, key: Key)
+    requires i { i ≤ vec_len keys.old }
+    requires room { vec_len keys.old < vec_capacity keys.old }
+    ensures items { keys.new.items ≡ insert keys.old.items i key }
+    ensures len { length keys.new.items ≡ length keys.old.items + 1 }
+    ensures capacity { vec_capacity keys.old ≤ vec_capacity keys.new }
+{
+    let _ = keys.insert(i, key);
+}
+
+// Takes away the key of a window that has one.
+pub(crate) fn take_out(keys: &mut Vec<Key>, window: u32)
+    requires rising { RiseFrom 0 keys.old.items }
+    requires known { is_some (slot_in window keys.old.items) ≡ true }
+    ensures rising { RiseFrom 0 keys.new.items }
+    ensures slots { (other : ℕ) → slot_in other keys.new.items ≡ (if window == other then None else slot_in other keys.old.items) }
+    ensures len { length keys.new.items + 1 ≡ length keys.old.items }
+    ensures capacity { vec_capacity keys.new ≡ vec_capacity keys.old }
+{
+    let i = place_for(keys, window);
+    remove_at(keys, i);
+}
+
+// Takes the key at a place away.
+fn remove_at(keys: &mut Vec<Key>, i: usize)
+    requires { i < vec_len keys.old }
+    ensures items { keys.new.items ≡ remove keys.old.items i }
+    ensures len { length keys.new.items + 1 ≡ length keys.old.items }
+    ensures capacity { vec_capacity keys.new ≡ vec_capacity keys.old }
+{
+    keys.remove(i);
+}
