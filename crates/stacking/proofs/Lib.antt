@@ -1,1 +1,4 @@
 pub mod CountLemmas
+pub mod OrderLemmas
+pub mod KeyLemmas
+pub mod IndexLemmas

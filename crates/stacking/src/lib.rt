@@ -4,10 +4,13 @@
 //! one is the first to have the focus. Stacking and focus are this project's own.
 #![tactic(auto)]
 
-ghost use Rattle.std.specs.Prelude.{◌≡◌, ◌+◌, ◌<◌, ◌≤◌, ◌↔◌, [], ◌∷◌, ◌++◌, ◌==◌, not, filter, false, if◌then◌else◌, length, reverse, slice_get, vec_len, vec_capacity, IsTrue, IsNone, IfOk};
+mod index;
+
+ghost use Rattle.std.specs.Prelude.{◌≡◌, ◌+◌, ◌<◌, ◌≤◌, ◌↔◌, [], ◌∷◌, ◌++◌, ◌==◌, not, filter, false, true, if◌then◌else◌, length, reverse, slice_get, vec_len, vec_capacity, IsTrue, IsNone, IfOk};
 ghost use Rattle.desk_laws.specs.Layers.{HaveRowsOnce, no_layers, is_in, without, to_end, entered, departed, raised, relayered, id_from_top};
 ghost use Rattle.desk_laws.specs.Following.{without_guest};
 
+use crate::index::{Key, layer_in, put_key, take_guest_keys, take_key};
 use desk_laws::RowId;
 use gui_num::NoMemory;
 use std::alloc::Global;
@@ -16,24 +19,27 @@ use std::marker::Model;
 /// The two layers, each from its bottom to its top, and the focus list from its front. A row is in
 /// one layer or in none, and the focus list has exactly the rows of both layers, each once.
 ///
-/// Contracts see these lists, and the number of rows that there is room for.
+/// Whether a row is there, and in which layer, is found without a walk over the lists. Contracts see
+/// the lists, and the number of rows that there is room for.
 #[derive(Drop)]
 pub struct Stacking {
     normal: Vec<RowId>,
     over: Vec<RowId>,
     focus: Vec<RowId>,
+    keys: Vec<Key>,
 }
 
 impl Model for Stacking {
     ghost use Rattle.std.specs.Prelude.{◌≤◌, vec_capacity};
     ghost use Rattle.stacking.specs.RowCounts.{AreCounted};
+    ghost use Rattle.stacking.specs.Keys.{IsIndex};
     ghost use Rattle.stacking.specs.Stacked.{Stacked};
 
     ghost Value = { Stacked };
 
     ghost view = { λ s. record { layers = record { normal = s.normal.items; over = s.over.items; focus = s.focus.items }; rows = vec_capacity s.focus } };
 
-    ghost invariant = { λ s. AreCounted s.normal.items s.over.items s.focus.items × (vec_capacity s.focus ≤ vec_capacity s.normal) × (vec_capacity s.focus ≤ vec_capacity s.over) };
+    ghost invariant = { λ s. AreCounted s.normal.items s.over.items s.focus.items × (vec_capacity s.focus ≤ vec_capacity s.normal) × (vec_capacity s.focus ≤ vec_capacity s.over) × IsIndex s.normal.items s.over.items s.keys.items × (vec_capacity s.focus ≤ vec_capacity s.keys) };
 }
 
 impl Stacking {
@@ -46,6 +52,7 @@ impl Stacking {
             normal: Vec::with_capacity(alloc, rows)?,
             over: Vec::with_capacity(alloc, rows)?,
             focus: Vec::with_capacity(alloc, rows)?,
+            keys: Vec::with_capacity(alloc, rows)?,
         })
     }
 
@@ -56,6 +63,7 @@ impl Stacking {
         ensures { self.new ≡ record self.old { layers = entered id over self.old.layers } }
     {
         put_first(&mut self.focus, id);
+        put_key(&mut self.keys, id, over);
         if over {
             self.over.push_reserved(id);
         } else {
@@ -67,9 +75,28 @@ impl Stacking {
     pub fn leave(&mut self, id: RowId)
         ensures { self.new ≡ record self.old { layers = departed id self.old.layers } }
     {
+        if self.holds(id) {
+            self.take_row(id);
+        }
+    }
+
+    // Whether a row stands in the lists. Where it doesn't, its leaving changes none of them.
+    fn holds(&self, id: RowId) -> bool
+        ensures is { result ≡ is_in self.now.layers.focus id }
+        ensures none { result ≡ false → departed id self.now.layers ≡ self.now.layers }
+    {
+        layer_in(&self.keys, id).is_some()
+    }
+
+    // Takes out a row that is there.
+    fn take_row(&mut self, id: RowId)
+        requires { is_in self.old.layers.focus id ≡ true }
+        ensures { self.new ≡ record self.old { layers = departed id self.old.layers } }
+    {
         take_out(&mut self.normal, id);
         take_out(&mut self.over, id);
         take_out(&mut self.focus, id);
+        take_key(&mut self.keys, id);
     }
 
     /// Takes out all rows of a guest, counted from 0.
@@ -79,6 +106,7 @@ impl Stacking {
         take_guest_out(&mut self.normal, guest);
         take_guest_out(&mut self.over, guest);
         take_guest_out(&mut self.focus, guest);
+        take_guest_keys(&mut self.keys, guest);
     }
 
     /// Puts a row on top of its layer and at the end of the focus list.
@@ -97,10 +125,30 @@ impl Stacking {
         requires { IsTrue (is_in self.old.layers.focus id) }
         ensures { self.new ≡ record self.old { layers = relayered id over self.old.layers } }
     {
+        if !self.is_in_layer(id, over) {
+            self.change_layer(id, over);
+        }
+    }
+
+    // Whether a row is in the override layer (`over`), or in the normal one.
+    fn is_in_layer(&self, id: RowId, over: bool) -> bool
+        ensures { result ≡ (if over then is_in self.now.layers.over id else is_in self.now.layers.normal id) }
+    {
+        layer_in(&self.keys, id) == Some(over)
+    }
+
+    // Puts a row on top of the override layer (`over`) or of the normal one, in which it isn't yet.
+    fn change_layer(&mut self, id: RowId, over: bool)
+        requires there { is_in self.old.layers.focus id ≡ true }
+        requires other { (if over then is_in self.old.layers.over id else is_in self.old.layers.normal id) ≡ false }
+        ensures { self.new ≡ record self.old { layers = relayered id over self.old.layers } }
+    {
+        take_key(&mut self.keys, id);
+        put_key(&mut self.keys, id, over);
         if over {
-            change_layer(&mut self.normal, &mut self.over, id);
+            move_row(&mut self.normal, &mut self.over, id);
         } else {
-            change_layer(&mut self.over, &mut self.normal, id);
+            move_row(&mut self.over, &mut self.normal, id);
         }
     }
 
@@ -130,7 +178,7 @@ impl Stacking {
     pub fn has(&self, id: RowId) -> bool
         ensures { result ≡ is_in self.now.layers.focus id }
     {
-        has(&self.focus, id)
+        self.holds(id)
     }
 
     /// How many rows there are.
@@ -183,18 +231,16 @@ fn move_to_end(ids: &mut Vec<RowId>, id: RowId)
     }
 }
 
-// Moves a row from one layer to the top of another, where it isn't in that one yet.
-fn change_layer(from: &mut Vec<RowId>, to: &mut Vec<RowId>, id: RowId)
-    requires { is_in to.old.items id ≡ false → vec_len to.old < vec_capacity to.old }
-    ensures from { from.new.items ≡ (if is_in to.old.items id then from.old.items else without id from.old.items) }
-    ensures to { to.new.items ≡ (if is_in to.old.items id then to.old.items else to.old.items ++ id ∷ []) }
+// Moves a row from one layer to the top of another.
+fn move_row(from: &mut Vec<RowId>, to: &mut Vec<RowId>, id: RowId)
+    requires { vec_len to.old < vec_capacity to.old }
+    ensures from { from.new.items ≡ without id from.old.items }
+    ensures to { to.new.items ≡ to.old.items ++ id ∷ [] }
     ensures from_capacity { vec_capacity from.new ≡ vec_capacity from.old }
     ensures to_capacity { vec_capacity to.new ≡ vec_capacity to.old }
 {
-    if !has(to, id) {
-        take_out(from, id);
-        to.push_reserved(id);
-    }
+    take_out(from, id);
+    to.push_reserved(id);
 }
 
 // The row that stands k places before the last one.
@@ -251,6 +297,7 @@ mod tests {
         assert_eq!(rt; rows_of(&stack, false), [Some(b), Some(c), Some(a), None]);
         stack.relayer(b, true);
         stack.relayer(a, false);
+        stack.relayer(c, true);
         assert_eq!(rt; rows_of(&stack, true), [Some(b), Some(c), Some(a), None]);
         stack.leave(c);
         assert_eq!(rt; stack.len(), 2);
