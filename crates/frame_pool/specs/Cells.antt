@@ -43,9 +43,3 @@ number None = 0
 -- the numbers of some words
 abbrev pub numbers : List (Option ℕ) → List ℕ
 numbers ws = map number ws
-
--- each of these words was written
-abbrev pub AllWritten : List (Option ℕ) → Type 0
-AllWritten [] = Unit {0}
-AllWritten (Some n ∷ ws) = AllWritten ws
-AllWritten (None ∷ ws) = ⊥

@@ -3,3 +3,4 @@ pub mod Ports
 pub mod Regions
 pub mod Runs
 pub mod Tapes
+pub mod Touched

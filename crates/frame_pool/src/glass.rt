@@ -1,5 +1,7 @@
 // The frames of one guest.
-ghost use Rattle.std.specs.Prelude.{◌≡◌, ◌+◌, ◌*◌, ◌<◌, ◌≤◌, length, slice_index, slice_set, IfOk};
+ghost use Rattle.std.specs.Prelude.{◌≡◌, ◌+◌, ◌*◌, ◌/◌, ◌%◌, ◌<◌, ◌≤◌, length, slice_index, slice_set, IfOk};
+ghost use Rattle.gui_wire.specs.Words.{all_words};
+ghost use Rattle.desk_laws.specs.Frames.{write_words};
 ghost use Rattle.frame_pool.specs.Regions.{zero_words};
 ghost use Rattle.frame_pool.specs.Runs.{words_from};
 
@@ -33,7 +35,7 @@ impl Glass {
         ensures zeros { IfOk result (λ glass. glass ≡ zero_words pages) }
         ensures len { IfOk result (λ glass. length glass ≡ PAGE_WORDS * pages) }
     {
-        let region = Region::new(alloc, PAGE_WORDS as usize * pages as usize)?;
+        let region = Region::new(alloc, pages)?;
         Ok(Glass { region })
     }
 
@@ -52,7 +54,8 @@ impl Glass {
         requires page { PAGE_WORDS * place.page + PAGE_WORDS ≤ length self.now }
         ensures { words.new ≡ words_from self.now (PAGE_WORDS * place.page + place.word) (length words.old) }
     {
-        self.region.load_run(index_of(place), words);
+        self.region
+            .load_run(place.page as usize, place.word as usize, words);
     }
 
     /// Writes the word at this place, which lies in the pages.
@@ -61,6 +64,18 @@ impl Glass {
         ensures { self.new ≡ slice_set self.old (PAGE_WORDS * place.page + place.word) word }
     {
         self.region.store(index_of(place), word);
+    }
+
+    // Writes the numbers that some bytes spell to the words of one page from this place on.
+    pub(crate) fn store_run(&mut self, place: Place, bytes: &[u8])
+        requires page { PAGE_WORDS * place.page + PAGE_WORDS ≤ length self.old }
+        requires whole { length bytes.now % 4 ≡ 0 }
+        requires end { place.word + length bytes.now / 4 ≤ PAGE_WORDS }
+        ensures words { self.new ≡ write_words self.old (PAGE_WORDS * place.page + place.word) (all_words bytes.now) }
+        ensures len { length self.new ≡ length self.old }
+    {
+        self.region
+            .store_run(place.page as usize, place.word as usize, bytes);
     }
 }
 

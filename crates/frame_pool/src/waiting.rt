@@ -7,7 +7,6 @@ ghost use Rattle.frame_pool.specs.Regions.{AllLieIn, LiesIn, IsFirst, NotBefore,
 
 use crate::{Glass, Place};
 use arrayvec::ArrayVec;
-use gui_wire::Refs;
 use std::marker::Model;
 
 // A store, and the number of loads after which it is due.
@@ -36,12 +35,8 @@ pub(crate) fn put(glass: &mut Glass, page: u32, offset: u32, bytes: &[u8])
     ensures words { glass.new ≡ write_words glass.old (PAGE_WORDS * page + offset / 4) (all_words bytes.now) }
     ensures len { length glass.new ≡ length glass.old }
 {
-    // The bytes stand as the numbers of a message do.
-    let numbers = Refs::new(bytes);
-    for k in 0..numbers.count() {
-        let word = offset / 4 + k;
-        glass.store(Place { page, word }, numbers.at(k));
-    }
+    let word = offset / 4;
+    glass.store_run(Place { page, word }, bytes);
 }
 
 // The load at which a store is due.

@@ -1,11 +1,11 @@
 use Rattle.std.proofs.Common.{◌+◌, length-set, ap, ◌∙◌, arith}
 use Rattle.frame_pool.specs.Cells.{number, numbers}
-use Rattle.frame_pool.proofs.CellLemmas.{written-at, number-at}
+use Rattle.frame_pool.proofs.CellLemmas.{number-at}
 use Rattle.frame_pool.proofs.RunLemmas.{read-next, read-all}
 use Rattle.frame_pool.proofs.region.read_run.Goals as goal
 
 pub load-requires-clause-filled : goal.load-requires-clause-filled
-load-requires-clause-filled c = written-at c.args.cells.now.words (c.args.at + c.loop-k.k) (omega (arith, c.requires.end, c.loop-k-test.true)) c.requires.filled
+load-requires-clause-filled c = c.requires.filled (c.args.at + c.loop-k.k) (omega arith) (omega (arith, c.loop-k-test.true))
 
 pub loop-k-preserved : goal.loop-k-preserved
 loop-k-preserved c =
