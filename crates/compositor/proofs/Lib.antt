@@ -1,3 +1,4 @@
+pub mod BandLemmas
 pub mod DrawLemmas
 pub mod PixelLemmas
 pub mod RowLemmas

@@ -1,3 +1,4 @@
+pub mod Bands
 pub mod Composed
 pub mod PictureView
 pub mod TestPanes

@@ -1,7 +1,8 @@
 // How the panes are drawn onto one row of a picture, from the topmost one down, each pixel once.
-ghost use Rattle.std.specs.Prelude.{◌≡◌, ◌<◌, ◌≤◌, ◌+◌, ◌-◌, ℕ, ◌&&◌, not, length, slice_get, slice_index, Some, true, pos, ◌-ℤ◌, ◌≤ℤ◌, if◌then◌else◌};
+ghost use Rattle.std.specs.Prelude.{◌≡◌, ◌<◌, ◌≤◌, ◌+◌, ◌-◌, ◌++◌, ℕ, List, All, ◌&&◌, not, length, drop, slice_get, slice_index, Some, true, pos, ◌-ℤ◌, ◌≤ℤ◌, if◌then◌else◌};
 ghost use Rattle.gui_num.specs.Rects.{IsFit, nat_of, has, on_side, right};
 ghost use Rattle.region_clip.specs.Spans.{in_columns, in_spans, AreApart};
+ghost use Rattle.compositor.specs.Bands.{numbered};
 ghost use Rattle.compositor.specs.Composed.{Pane, views_of, colour_or, content_under, pane_colour, composed, at_pixel};
 
 use crate::panes::{PaneView, Panes};
@@ -52,7 +53,9 @@ fn fill(row: &mut [u32], from: usize, end: usize, colour: u32)
     requires inside { end ≤ length row.old }
     ensures { (x : ℕ) → x < length row.old → slice_index row.new x ≡ (if in_columns from end x then colour else slice_index row.old x) }
 {
-    row[from..end].fill(colour);
+    if from < end {
+        row[from..end].fill(colour);
+    }
 }
 
 // Gives the columns from one on and before another what a pane shows from column `x` of its row `y` on.
@@ -192,25 +195,65 @@ fn paint_pane<Q: Panes>(row: &mut [u32], spans: &mut RowSpans, panes: &Q, k: usi
     }
 }
 
-// Draws the columns of the row y that are left to be drawn, each one once.
+// Draws the panes with these numbers where nothing is drawn yet, until all is drawn. What any panes below
+// them would show then is what all of them together would have shown.
+fn paint_listed<Q: Panes>(
+    row: &mut [u32],
+    spans: &mut RowSpans,
+    panes: &Q,
+    listed: &[usize],
+    y: u32,
+)
+    requires width { spans.old.width ≡ length row.old }
+    requires small { length row.old ≤ 8192 }
+    requires row { y < 8192 }
+    requires numbers { All (λ k. k < length (Q.panes panes.now)) listed.now }
+    ensures width { spans.new.width ≡ spans.old.width }
+    ensures row { (background : ℕ) (below : List Pane) (x : ℕ) → x < length row.old → (if in_spans spans.new.spans x then composed background below (at_pixel x y) else slice_index row.new x) ≡ (if in_spans spans.old.spans x then composed background (numbered (Q.panes panes.now) listed.now ++ below) (at_pixel x y) else slice_index row.old x) }
+{
+    for k in listed {
+        if spans.is_empty() {
+            return;
+        }
+        paint_pane(row, spans, panes, *k, y);
+    }
+}
+
+// Draws the panes from the `first` on where nothing is drawn yet, until all is drawn.
+fn paint_from<Q: Panes>(row: &mut [u32], spans: &mut RowSpans, panes: &Q, first: usize, y: u32)
+    requires width { spans.old.width ≡ length row.old }
+    requires small { length row.old ≤ 8192 }
+    requires row { y < 8192 }
+    ensures width { spans.new.width ≡ spans.old.width }
+    ensures row { (background x : ℕ) → x < length row.old → (if in_spans spans.new.spans x then background else slice_index row.new x) ≡ (if in_spans spans.old.spans x then composed background (drop first (Q.panes panes.now)) (at_pixel x y) else slice_index row.old x) }
+{
+    for k in first..panes.count() {
+        if spans.is_empty() {
+            return;
+        }
+        paint_pane(row, spans, panes, k, y);
+    }
+}
+
+// Draws the columns of the row y that are left to be drawn, each one once: the panes with these numbers,
+// then those from the one with the number `rest` on, and the background.
 pub(crate) fn paint_row<Q: Panes>(
     row: &mut [u32],
     spans: &mut RowSpans,
     panes: &Q,
+    listed: &[usize],
+    rest: usize,
     y: u32,
     background: u32,
 )
     requires width { spans.old.width ≡ length row.old }
     requires small { length row.old ≤ 8192 }
     requires row { y < 8192 }
+    requires numbers { All (λ k. k < length (Q.panes panes.now)) listed.now }
     ensures width { spans.new.width ≡ spans.old.width }
-    ensures row { (x : ℕ) → x < length row.old → slice_index row.new x ≡ (if in_spans spans.old.spans x then composed background (Q.panes panes.now) (at_pixel x y) else slice_index row.old x) }
+    ensures row { (x : ℕ) → x < length row.old → slice_index row.new x ≡ (if in_spans spans.old.spans x then composed background (numbered (Q.panes panes.now) listed.now ++ drop rest (Q.panes panes.now)) (at_pixel x y) else slice_index row.old x) }
 {
-    for k in 0..panes.count() {
-        if spans.is_empty() {
-            return;
-        }
-        paint_pane(row, spans, panes, k, y);
-    }
+    paint_listed(row, spans, panes, listed, y);
+    paint_from(row, spans, panes, rest, y);
     fill_spans(row, spans.spans(), background);
 }

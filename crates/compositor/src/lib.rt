@@ -1,6 +1,7 @@
 //! The picture of a desktop: each of its pixels once, from the topmost window down.
 #![tactic(auto)]
 
+mod band;
 mod draw;
 mod panes;
 mod picture;

@@ -1,9 +1,11 @@
 // The picture of the desktop: one colour for each pixel.
-ghost use Rattle.std.specs.Prelude.{◌≡◌, ◌<◌, ◌≤◌, ◌+◌, ◌*◌, ℕ, length, map, take, drop, slice_index, vec_len, IfOk, if◌then◌else◌};
+ghost use Rattle.std.specs.Prelude.{◌≡◌, ◌<◌, ◌≤◌, ◌+◌, ◌*◌, ◌++◌, ℕ, All, length, map, take, drop, slice_index, vec_len, IfOk, if◌then◌else◌};
 ghost use Rattle.region_clip.specs.Spans.{in_spans};
+ghost use Rattle.compositor.specs.Bands.{numbered, ShowSame};
 ghost use Rattle.compositor.specs.Composed.{composed, at_pixel, all_pixels};
 ghost use Rattle.compositor.specs.PictureView.{counted};
 
+use crate::band::{BAND_ROWS, MOST_LISTED, list_band};
 use crate::draw::paint_row;
 use crate::panes::Panes;
 use gui_num::{Colour, NoMemory};
@@ -20,6 +22,8 @@ pub struct Picture {
     background: Colour,
     pixels: Vec<u32>,
     spans: RowSpans,
+    // Which panes the rows that are drawn meet: room for a list that is made anew for each band of rows.
+    listed: Vec<usize>,
     painted: u64,
 }
 
@@ -37,7 +41,7 @@ impl Model for Picture {
 impl Picture {
     /// A picture of `width` by `height` pixels, all of the colour of the background, of which nothing
     /// counts as drawn yet. All memory is taken here: no other call takes any. `NoMemory` where there is
-    /// none for its pixels.
+    /// none for its pixels, or for what drawing them needs.
     pub fn new(
         alloc: Global,
         width: u32,
@@ -50,12 +54,14 @@ impl Picture {
     {
         let pixels = vec![in alloc; background.0; height as usize * width as usize]?;
         let spans = RowSpans::new(alloc, width)?;
+        let listed = Vec::with_capacity(alloc, MOST_LISTED)?;
         Ok(Picture {
             width,
             height,
             background,
             pixels,
             spans,
+            listed,
             painted: 0,
         })
     }
@@ -107,6 +113,7 @@ impl Picture {
         paint_rows(
             &mut self.pixels,
             &mut self.spans,
+            &mut self.listed,
             panes,
             self.width,
             self.height,
@@ -118,10 +125,11 @@ impl Picture {
     }
 }
 
-// Draws all rows of a picture, from the top.
+// Draws all rows of a picture, from the top, in bands of rows.
 fn paint_rows<Q: Panes>(
     pixels: &mut [u32],
     spans: &mut RowSpans,
+    listed: &mut Vec<usize>,
     panes: &Q,
     width: u32,
     height: u32,
@@ -134,9 +142,46 @@ fn paint_rows<Q: Panes>(
     ensures width { spans.new.width ≡ width }
     ensures pixels { pixels.new ≡ map (composed background (Q.panes panes.now)) (all_pixels width height) }
 {
-    for y in 0..height {
+    let mut top = 0;
+    while top < height {
+        let bottom = height.min(top + BAND_ROWS);
+        let rest = list_band(listed, panes, top, bottom);
+        paint_band(
+            pixels, spans, panes, listed, rest, top, bottom, width, background,
+        );
+        top = bottom;
+    }
+}
+
+// Draws the rows from `top` on and before `bottom`, in which the panes with these numbers and those from
+// the one with the number `rest` on show what all show.
+fn paint_band<Q: Panes>(
+    pixels: &mut [u32],
+    spans: &mut RowSpans,
+    panes: &Q,
+    listed: &[usize],
+    rest: usize,
+    top: u32,
+    bottom: u32,
+    width: u32,
+    background: u32,
+)
+    requires width { spans.old.width ≡ width }
+    requires small { width ≤ 8192 }
+    requires order { top ≤ bottom }
+    requires low { bottom ≤ 8192 }
+    requires inside { bottom * width ≤ length pixels.old }
+    requires numbers { All (λ k. k < length (Q.panes panes.now)) listed.now }
+    requires same { ShowSame top bottom (numbered (Q.panes panes.now) listed.now ++ drop rest (Q.panes panes.now)) (Q.panes panes.now) }
+    ensures width { spans.new.width ≡ width }
+    ensures here { (x y : ℕ) → x < width → top ≤ y → y < bottom → slice_index pixels.new (y * width + x) ≡ composed background (Q.panes panes.now) (at_pixel x y) }
+    ensures before { (i : ℕ) → i < top * width → slice_index pixels.new i ≡ slice_index pixels.old i }
+{
+    for y in top..bottom {
         let start = y as usize * width as usize;
-        paint_at(pixels, start, spans, panes, y, width, background);
+        paint_at(
+            pixels, start, spans, panes, listed, rest, y, width, background,
+        );
     }
 }
 
@@ -146,6 +191,8 @@ fn paint_at<Q: Panes>(
     start: usize,
     spans: &mut RowSpans,
     panes: &Q,
+    listed: &[usize],
+    rest: usize,
     y: u32,
     width: u32,
     background: u32,
@@ -154,12 +201,21 @@ fn paint_at<Q: Panes>(
     requires small { width ≤ 8192 }
     requires row { y < 8192 }
     requires inside { start + width ≤ length pixels.old }
+    requires numbers { All (λ k. k < length (Q.panes panes.now)) listed.now }
     ensures width { spans.new.width ≡ width }
-    ensures here { (x : ℕ) → x < width → slice_index pixels.new (start + x) ≡ composed background (Q.panes panes.now) (at_pixel x y) }
+    ensures here { (x : ℕ) → x < width → slice_index pixels.new (start + x) ≡ composed background (numbered (Q.panes panes.now) listed.now ++ drop rest (Q.panes panes.now)) (at_pixel x y) }
     ensures before { (i : ℕ) → i < start → slice_index pixels.new i ≡ slice_index pixels.old i }
     ensures behind { (i : ℕ) → start + width ≤ i → slice_index pixels.new i ≡ slice_index pixels.old i }
 {
     let end = start + width as usize;
     spans.reset(0, width);
-    paint_row(&mut pixels[start..end], spans, panes, y, background);
+    paint_row(
+        &mut pixels[start..end],
+        spans,
+        panes,
+        listed,
+        rest,
+        y,
+        background,
+    );
 }
