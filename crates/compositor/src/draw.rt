@@ -190,7 +190,7 @@ fn paint_pane<Q: Panes>(row: &mut [u32], spans: &mut RowSpans, panes: &Q, k: usi
     if in_row(place.outer, y) {
         let x0 = column(place.outer.x);
         let x1 = right_column(place.outer);
-        draw_spans(row, spans.spans(), panes, k, &place, x0, x1, y);
+        draw_spans(row, spans.spans_in(x0, x1), panes, k, &place, x0, x1, y);
         spans.cut(x0, x1);
     }
 }

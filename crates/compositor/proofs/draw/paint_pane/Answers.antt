@@ -29,7 +29,7 @@ returns-then-in_row-clause-row g c = λ pane is x below.
     let colour = pane_colour pane (at_pixel x c.args.y) in
     let old = slice_index c.args.row.now x in
     c.draw_spans.ensures pane is x below
-    ∙ ap (λ ss. if in_spans ss x && in_columns c.column-x0.result c.right_column-x1.result x then colour else old) c.spans.ensures.these
+    ∙ ap (λ b. if b then colour else old) (c.spans_in.ensures.columns x)
     ∙ ap (λ b. if in_spans c.args.spans.now.spans x && b then colour else old)
     (ap (λ n. in_columns n c.right_column-x1.result x) x0 ∙ ap (λ n. in_columns (nat_of v.outer.x) n x) c.right_column-x1.ensures ∙ outer-in v.outer.x (right v.outer) x ∙ with_row _ _ c.if-in_row.ensures
     ∙ ap (λ (u : PaneView). has u.outer (at_pixel x c.args.y)) e)
