@@ -1,5 +1,5 @@
 -- The part of a window that is read, and the dump that it is read from.
-use Rattle.std.specs.Prelude.{◌≡◌, ℕ, ◌+◌, ◌≤◌, List, Option, Some, None}
+use Rattle.std.specs.Prelude.{◌≡◌, ℕ, ◌+◌, ◌%◌, ◌^◌, ◌≤◌, List, Option, Some, None}
 use Rattle.desk_laws.specs.Rows.{DumpOf}
 use Rattle.desk_laws.specs.Frames.{PortState, load_all}
 use Rattle.desk_laws.specs.Effects.{Area, frame_places}
@@ -38,6 +38,14 @@ row_in area y = record { x = area.x; y = y; w = area.w; h = 1 }
 -- one pixel
 abbrev pub pixel_at : ℕ → ℕ → Area
 pixel_at x y = record { x = x; y = y; w = 1; h = 1 }
+
+-- n pixels of a row from a column on
+abbrev pub run_at : (x y n : ℕ) → Area
+run_at x y n = record { x = x; y = y; w = n; h = 1 }
+
+-- the colour that a word is: its low 24 bits
+abbrev pub colour_of : ℕ → ℕ
+colour_of word = word % 2 ^ 24
 
 -- the tiles once these pixels of a slot were read from a dump, one after the other
 abbrev pub tiles_read : ℕ → Option DumpOf → List (ℕ × ℕ) → PortState → List Tile → List Tile

@@ -245,3 +245,31 @@ fn reads_what_is_reported(rt: HostRuntime) -> Result<(), NoMemory> {
     assert_eq!(rt; row, [1, 2, 3, 9]);
     Ok(())
 }
+
+// A session with a window of 1030 by 2 pixels and a dump of that size, whose frames read as 1, 2 and so on up to 20.
+fn reading_wide(alloc: Global) -> Result<Run, NoMemory> {
+    let mut run = ready(alloc, &SEVEN)?;
+    for word in 1..21 {
+        run.add(word)?;
+    }
+    run.send(CREATE, 1, &[2, 2, 1030, 2, 0, 0]);
+    run.send(DUMP, 1, &[0, 1030, 2, 32, 0, 1, 2]);
+    Ok(run)
+}
+
+// Of the second row a page ends before column 1018, and a tile before column 1024.
+#[test]
+fn reads_a_row_in_runs(rt: HostRuntime) -> Result<(), NoMemory> {
+    let mut run = reading_wide(rt.alloc())?;
+    run.send(SHMIMAGE, 1, &[1010, 1, 20, 1]);
+    assert_eq!(rt; run.left(), 0);
+    let mut row = [0; 22];
+    run.session.content_row(1, 1009, 1, Colour(9), &mut row);
+    assert_eq!(rt;
+        row,
+        [
+            9, 1, 2, 3, 4, 5, 6, 7, 8, 9, 10, 11, 12, 13, 14, 15, 16, 17, 18, 19, 20, 9
+        ]
+    );
+    Ok(())
+}

@@ -1,4 +1,4 @@
-use Rattle.std.proofs.Common.{◌≡◌, ℕ, ◌-◌}
+use Rattle.std.proofs.Common.{◌≡◌, ◌-◌}
 use Rattle.desk_laws.specs.Rows.{grid}
 use Rattle.frame_pool.specs.Ports.{ChangesFrames}
 use Rattle.tile_store.specs.Contents.{KeepsHeld}
