@@ -1,7 +1,7 @@
 //! Paints one desktop of windows over and over, in the two ways that come first to mind: each window
 //! over those below it, or each row from the topmost window down. It prints a checksum of the last frame.
 //!
-//! usage: full_repaints back-to-front|top-down FRAMES
+//! usage: full_repaints back-to-front|top-down FRAMES WINDOWS
 
 use std::env;
 use std::hint::black_box;
@@ -11,7 +11,7 @@ const WIDTH: usize = 1920;
 const HEIGHT: usize = 1080;
 const BACKGROUND: u32 = 0x202830;
 const BORDER: i32 = 2;
-const WINDOWS: u32 = 20;
+const FEW_WINDOWS: u32 = 20;
 const GUESTS: u32 = 4;
 const LABELS: [u32; GUESTS as usize] = [0xcc0000, 0x3465a4, 0x73d216, 0xedd400];
 
@@ -33,10 +33,13 @@ struct Window {
 type Span = (usize, usize);
 
 impl Window {
-    /// The k-th window from the top.
-    fn new(k: u32) -> Window {
-        let width = 320 + k * 173 % 700;
-        let height = 240 + k * 131 % 500;
+    /// The k-th window from the top, among so many: a large one where there are few.
+    fn new(k: u32, windows: u32) -> Window {
+        let (width, height) = if windows <= FEW_WINDOWS {
+            (320 + k * 173 % 700, 240 + k * 131 % 500)
+        } else {
+            (24 + k * 173 % 128, 24 + k * 131 % 64)
+        };
         let first = k % GUESTS * WORDS;
         let colour = |place: u32| (first + place % WORDS).wrapping_mul(2654435761) & 0xffffff;
         Window {
@@ -136,12 +139,16 @@ fn checksum(picture: &[u32]) -> u64 {
 
 fn main() -> ExitCode {
     let words: Vec<String> = env::args().skip(1).collect();
-    let (way, frames) = match words.as_slice() {
-        [way, frames] if way == "back-to-front" || way == "top-down" => (way, frames.parse::<u32>()),
+    let (way, frames, windows) = match words.as_slice() {
+        [way, frames, windows] if way == "back-to-front" || way == "top-down" => {
+            (way, frames.parse::<u32>(), windows.parse::<u32>())
+        }
         _ => return usage(),
     };
-    let Ok(frames) = frames else { return usage() };
-    let windows: Vec<Window> = (0..WINDOWS).map(Window::new).collect();
+    let (Ok(frames), Ok(windows)) = (frames, windows) else {
+        return usage();
+    };
+    let windows: Vec<Window> = (0..windows).map(|k| Window::new(k, windows)).collect();
     let mut picture = vec![BACKGROUND; WIDTH * HEIGHT];
     let (mut left, mut next) = (Vec::new(), Vec::new());
     for _ in 0..frames {
@@ -156,6 +163,6 @@ fn main() -> ExitCode {
 }
 
 fn usage() -> ExitCode {
-    eprintln!("usage: full_repaints back-to-front|top-down FRAMES");
+    eprintln!("usage: full_repaints back-to-front|top-down FRAMES WINDOWS");
     ExitCode::from(2)
 }

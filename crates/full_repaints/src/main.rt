@@ -1,12 +1,16 @@
 //! Shows one desktop of windows over and over, and prints a checksum of the last picture. It is what
-//! `bench/full_repaints` measures, and its scene is that of `bench/full_repaints_rust`: 4 guests, with
-//! windows that they make by messages and whose contents are read from their frames.
+//! `bench/full_repaints` measures, and its scene is that of `bench/full_repaints_rust`: 4 guests, with as
+//! many windows as it is told, which they make by messages and whose contents are read from their frames.
 #![tactic(auto)]
+
+ghost use Rattle.std.specs.Prelude.{◌≤◌, IfOk, IfSome};
 
 mod scene;
 mod screen;
 
-use crate::scene::{GUESTS, PAGES, VERSION, WINDOWS, guest_of, page_bytes, setup, window_bytes};
+use crate::scene::{
+    GUESTS, MOST_WINDOWS, PAGES, VERSION, guest_of, page_bytes, setup, window_bytes,
+};
 use crate::screen::Screen;
 use desk_core::Picture;
 use gui_num::NoMemory;
@@ -37,46 +41,69 @@ fn greet(alloc: Global, screen: &mut Screen) -> Result<(), NoMemory> {
 }
 
 // Lets the guests make their windows, from the lowest one up.
-fn make_windows(alloc: Global, screen: &mut Screen) -> Result<(), NoMemory> {
-    for above in 0..WINDOWS {
-        let k = WINDOWS - 1 - above;
-        screen.receive(guest_of(k), &window_bytes(alloc, k)?);
+fn make_windows(alloc: Global, screen: &mut Screen, windows: u32) -> Result<(), NoMemory>
+    requires { windows ≤ 1024 }
+{
+    for above in 0..windows {
+        let k = windows - 1 - above;
+        screen.receive(guest_of(k), &window_bytes(alloc, k, windows)?);
     }
     Ok(())
 }
 
-// Shows the scene so many times, and answers the checksum of the last picture.
-fn repaint(alloc: Global, frames: u32) -> Result<u64, NoMemory> {
+// Shows the scene with so many windows as often as is asked, and answers the checksum of the last picture.
+fn repaint(alloc: Global, asked: Asked) -> Result<u64, NoMemory>
+    requires { asked.windows ≤ 1024 }
+{
     let mut screen = Screen::open(alloc, &setup(alloc)?)?;
     greet(alloc, &mut screen)?;
-    make_windows(alloc, &mut screen)?;
-    for _ in 0..frames {
+    make_windows(alloc, &mut screen, asked.windows)?;
+    for _ in 0..asked.frames {
         screen.snap();
     }
     Ok(checksum(screen.picture()))
 }
 
-// The number that is the only word, if it is one.
-fn frames_of(rt: &HostRuntime) -> io::Result<Option<u32>> {
+// What the program is asked to do: how many pictures it draws, and of how many windows.
+#[derive(Clone, Copy)]
+struct Asked {
+    frames: u32,
+    windows: u32,
+}
+
+// What two words ask, if they are numbers and there may be so many windows.
+fn asked_by(frames: &str, windows: &str) -> Option<Asked>
+    ensures { IfSome result (λ asked. asked.windows ≤ 1024) }
+{
+    let frames = frames.parse::<u32>().ok()?;
+    let windows = windows.parse::<u32>().ok()?;
+    if windows <= MOST_WINDOWS {
+        Some(Asked { frames, windows })
+    } else {
+        None
+    }
+}
+
+// What the words of the program ask, if there are two.
+fn read_words(rt: &HostRuntime) -> io::Result<Option<Asked>>
+    ensures { IfOk result (λ words. IfSome words (λ asked. asked.windows ≤ 1024)) }
+{
     let mut words = env::args(rt)?.skip(1);
-    let frames = match words.next() {
-        Some(word) => word.parse::<u32>().ok(),
-        None => None,
-    };
-    match words.next() {
-        Some(_) => Ok(None),
-        None => Ok(frames),
+    let (frames, windows, more) = (words.next(), words.next(), words.next());
+    match (frames, windows, more) {
+        (Some(frames), Some(windows), None) => Ok(asked_by(&frames, &windows)),
+        _ => Ok(None),
     }
 }
 
 fn main(rt: HostRuntime) -> io::Result<ExitCode> {
-    let Some(frames) = frames_of(&rt)? else {
-        eprintln!(rt; "usage: full_repaints FRAMES")?;
+    let Some(asked) = read_words(&rt)? else {
+        eprintln!(rt; "usage: full_repaints FRAMES WINDOWS, and at most {MOST_WINDOWS} windows")?;
         return Ok(ExitCode::from(2));
     };
-    match repaint(rt.alloc(), frames) {
+    match repaint(rt.alloc(), asked) {
         Ok(sum) => {
-            println!(rt; "{frames} frames, checksum {sum:016x}")?;
+            println!(rt; "{} frames, checksum {sum:016x}", asked.frames)?;
             Ok(ExitCode::from(0))
         }
         Err(NoMemory) => {

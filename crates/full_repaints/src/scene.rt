@@ -1,5 +1,5 @@
-// The scene: twenty windows of four guests, some of which overlap, and some of which lie partly off the
-// desktop, and what the guests do to show them.
+// The scene: windows of four guests, few and large or many and small, some of which overlap, and some of
+// which lie partly off the desktop, and what the guests do to show them.
 ghost use Rattle.std.specs.Prelude.{◌≡◌, ◌<◌, ◌≤◌, ◌*◌, None, length, vec_len, IfOk};
 ghost use Rattle.desk_laws.specs.Rules.{first_broken};
 
@@ -11,8 +11,11 @@ use std::alloc::Global;
 // How many guests there are.
 pub(crate) const GUESTS: u32 = 4;
 
-// How many windows there are.
-pub(crate) const WINDOWS: u32 = 20;
+// How many windows there are at most.
+pub(crate) const MOST_WINDOWS: u32 = 1024;
+
+// How many windows there are at most where they are large.
+const FEW_WINDOWS: u32 = 20;
 
 // How many of its pages each guest writes and shows.
 pub(crate) const PAGES: u32 = 64;
@@ -74,17 +77,32 @@ pub(crate) fn guest_of(k: u32) -> u32
     k % GUESTS
 }
 
-// Where the k-th window from the top is.
-fn place_of(k: u32) -> Rect
-    requires { k < 20 }
+// Where the k-th window from the top is, among so many.
+fn place_of(k: u32, windows: u32) -> Rect
+    requires { k < 1024 }
     ensures width { result.w ≤ 4096 }
     ensures height { result.h ≤ 4096 }
 {
+    let (w, h) = size_of(k, windows);
     Rect {
         x: (k * 397 % 2100) as i32 - 160,
         y: (k * 251 % 1200) as i32 - 120,
-        w: 320 + k * 173 % 700,
-        h: 240 + k * 131 % 500,
+        w,
+        h,
+    }
+}
+
+// The columns and rows of the k-th window from the top: hundreds where there are few, and dozens where
+// there are many.
+fn size_of(k: u32, windows: u32) -> (u32, u32)
+    requires { k < 1024 }
+    ensures width { result.0 ≤ 4096 }
+    ensures height { result.1 ≤ 4096 }
+{
+    if windows <= FEW_WINDOWS {
+        (320 + k * 173 % 700, 240 + k * 131 % 500)
+    } else {
+        (24 + k * 173 % 128, 24 + k * 131 % 64)
     }
 }
 
@@ -108,13 +126,13 @@ fn put_colours(words: &mut [u32], first: u32) {
     }
 }
 
-// The messages by which the k-th window from the top is made, is given its pages, is mapped, and is read
-// as a whole.
-pub(crate) fn window_bytes(alloc: Global, k: u32) -> Result<Vec<u8>, NoMemory>
-    requires { k < 20 }
+// The messages by which the k-th window from the top, of so many, is made, is given its pages, is mapped,
+// and is read as a whole.
+pub(crate) fn window_bytes(alloc: Global, k: u32, windows: u32) -> Result<Vec<u8>, NoMemory>
+    requires { k < 1024 }
 {
     let window = k + 1;
-    let Rect { x, y, w, h } = place_of(k);
+    let Rect { x, y, w, h } = place_of(k, windows);
     let refs = (w * h).div_ceil(PAGE_WORDS);
     let mut words = Vec::new(alloc);
     let (left, top) = (x.cast_unsigned(), y.cast_unsigned());
