@@ -7,7 +7,7 @@ use Rattle.desk_laws.specs.Frames.{FramePlace, Loads, PortState, load, load_all,
 use Rattle.frame_pool.specs.Runs.{run_of}
 use Rattle.frame_pool.proofs.RunLemmas.{length-run}
 use Rattle.desk_laws.specs.Effects.{Area, frame_place}
-use Rattle.tile_store.specs.declared.shelf.Tile.{Tile}
+use Rattle.tile_store.specs.Tile.{Tile}
 use Rattle.tile_store.specs.Spots.{spot_of}
 use Rattle.tile_store.specs.Held.{written, is_held, places_in_row}
 use Rattle.tile_store.specs.Contents.{HoldsAll, KeepsHeld, tiles_coloured}

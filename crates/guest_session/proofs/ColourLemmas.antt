@@ -7,7 +7,7 @@ use Rattle.desk_laws.specs.Rows.{DumpOf}
 use Rattle.desk_laws.specs.Frames.{PortState, FramePlace, load, load_all}
 use Rattle.desk_laws.specs.Effects.{Area, points, drawn, frame_places}
 use Rattle.tile_store.specs.declared.spot.Spot.{Spot}
-use Rattle.tile_store.specs.declared.shelf.Tile.{Tile}
+use Rattle.tile_store.specs.Tile.{Tile}
 use Rattle.tile_store.specs.Spots.{same, spot_of}
 use Rattle.tile_store.specs.Squares.{has_pixel}
 use Rattle.tile_store.specs.Held.{tile_at, is_held, pixel_in, colour_at, is_whole, are_whole, blank_tile, placed, with_tile, opened, tiles_along, tiles_met, written_in, written}

@@ -4,7 +4,7 @@ use Rattle.std.specs.List.{list_all}
 use Rattle.std.proofs.lemmas.Bool.{and_parts, and_from, eq-eqb, lt-ltb}
 use Rattle.gui_num.specs.declared.Rect.{Rect}
 use Rattle.desk_laws.specs.Rows.{Row, content_at, contents_at_size}
-use Rattle.tile_store.specs.declared.shelf.Tile.{Tile}
+use Rattle.tile_store.specs.Tile.{Tile}
 use Rattle.tile_store.specs.Squares.{has_pixel}
 use Rattle.tile_store.specs.Held.{colour_at, cut_tile, is_left, swept}
 use Rattle.tile_store.specs.Contents.{CutsAway, KeepsAll}

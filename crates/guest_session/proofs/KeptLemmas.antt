@@ -7,7 +7,7 @@ use Rattle.std.proofs.lemmas.List.Elements.{All-nil, All-cons, All-head, All-tai
 use Rattle.gui_num.specs.declared.Rect.{Rect}
 use Rattle.desk_laws.specs.Rows.{Row, row_with, span, content_of, content_at}
 use Rattle.desk_laws.specs.Effects.{refs_besides, Added, Replaced, Removed, changed, created}
-use Rattle.tile_store.specs.declared.shelf.Tile.{Tile}
+use Rattle.tile_store.specs.Tile.{Tile}
 use Rattle.tile_store.specs.Squares.{has_pixel}
 use Rattle.tile_store.specs.Held.{TilesView, colour_at, dropped}
 use Rattle.tile_store.specs.Contents.{Empties, colour_or}

@@ -10,7 +10,7 @@ use Rattle.desk_laws.specs.Rows.{Row, DumpOf, grid, row_with}
 use Rattle.desk_laws.specs.Tiles.{tiles_in_use, tiles_needed}
 use Rattle.desk_laws.specs.Frames.{PortState, load_all}
 use Rattle.desk_laws.specs.Effects.{Area, Verdict, Ends, Reads, points, clipped, drawn_row, frame_places, reads}
-use Rattle.tile_store.specs.declared.shelf.Tile.{Tile}
+use Rattle.tile_store.specs.Tile.{Tile}
 use Rattle.tile_store.specs.Held.{TilesView, are_whole, missing, opened, rises, tiles_along, tiles_met}
 use Rattle.tile_store.specs.Contents.{tiles_coloured}
 use Rattle.window_table.specs.declared.pane.DumpSize.{DumpSize}

@@ -10,7 +10,7 @@ use Rattle.gui_num.specs.declared.Rect.{Rect}
 use Rattle.desk_laws.specs.Rows.{is_row, grid}
 use Rattle.desk_laws.specs.Effects.{Added, Replaced, Removed, changed, replaced_in, forgets, created}
 use Rattle.tile_store.specs.declared.spot.Spot.{Spot}
-use Rattle.tile_store.specs.declared.shelf.Tile.{Tile}
+use Rattle.tile_store.specs.Tile.{Tile}
 use Rattle.tile_store.specs.Spots.{same, spot_of}
 use Rattle.tile_store.specs.Held.{tile_at, pixel_in, colour_at}
 use Rattle.tile_store.proofs.OrderLemmas.{same-is}

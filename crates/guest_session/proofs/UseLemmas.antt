@@ -7,7 +7,7 @@ use Rattle.std.proofs.lemmas.List.Sums.{sum_by-cons}
 use Rattle.desk_laws.specs.Rows.{Row, grid}
 use Rattle.desk_laws.specs.Layers.{are_apart}
 use Rattle.desk_laws.specs.Tiles.{tiles_of, tiles_in_use, tiles_needed, is_met, is_used, sides_meet}
-use Rattle.tile_store.specs.declared.shelf.Tile.{Tile}
+use Rattle.tile_store.specs.Tile.{Tile}
 use Rattle.tile_store.specs.Spots.{spot_of}
 use Rattle.tile_store.specs.Squares.{has_pixel}
 use Rattle.tile_store.specs.Held.{is_held, is_left, rises, are_whole, missing, tiles_along}

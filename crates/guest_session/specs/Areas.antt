@@ -3,7 +3,7 @@ use Rattle.std.specs.Prelude.{◌≡◌, ℕ, ◌+◌, ◌%◌, ◌^◌, ◌≤�
 use Rattle.desk_laws.specs.Rows.{DumpOf}
 use Rattle.desk_laws.specs.Frames.{PortState, load_all}
 use Rattle.desk_laws.specs.Effects.{Area, frame_places}
-use Rattle.tile_store.specs.declared.shelf.Tile.{Tile}
+use Rattle.tile_store.specs.Tile.{Tile}
 use Rattle.tile_store.specs.Contents.{tiles_coloured}
 use Rattle.window_table.specs.Entries.{Entry, entry_at}
 use Rattle.guest_session.specs.declared.read.Reported.{Reported}

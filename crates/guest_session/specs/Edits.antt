@@ -5,7 +5,7 @@ use Rattle.desk_laws.specs.Rows.{Row, placed_at}
 use Rattle.gui_wire.specs.declared.limits.TheConstants.{WINDOW_FLAG_MINIMIZE}
 use Rattle.desk_laws.specs.Effects.{text_of, flags_without, unmapped_row}
 use Rattle.window_table.specs.declared.pane.Pane.{Pane}
-use Rattle.tile_store.specs.declared.shelf.Tile.{Tile}
+use Rattle.tile_store.specs.Tile.{Tile}
 use Rattle.tile_store.specs.Held.{swept}
 use Rattle.tile_store.specs.Contents.{KeepsAll, CutsAway}
 use Rattle.guest_session.specs.declared.edit.Edit.{Edit}

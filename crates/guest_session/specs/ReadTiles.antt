@@ -7,7 +7,7 @@ use Rattle.desk_laws.specs.Rows.{DumpOf}
 use Rattle.desk_laws.specs.Frames.{PortState}
 use Rattle.desk_laws.specs.Effects.{Area, points, no_area, side_within}
 use Rattle.window_table.specs.declared.pane.DumpSize.{DumpSize}
-use Rattle.tile_store.specs.declared.shelf.Tile.{Tile}
+use Rattle.tile_store.specs.Tile.{Tile}
 use Rattle.tile_store.specs.Held.{TilesView, opened, missing, tiles_met}
 use Rattle.tile_store.specs.Contents.{tiles_coloured}
 use Rattle.guest_session.specs.Reading.{rect_of, drawn_by, area_loads}

@@ -6,7 +6,7 @@ use Rattle.desk_laws.specs.declared.limits.TheConstants.{MAX_PAGES}
 use Rattle.desk_laws.specs.Rows.{Row, DumpOf, grid}
 use Rattle.desk_laws.specs.Effects.{Change, Replaced, changed, pages_for}
 use Rattle.window_table.specs.Entries.{Entry, TableView, entry_at, row_of}
-use Rattle.tile_store.specs.declared.shelf.Tile.{Tile}
+use Rattle.tile_store.specs.Tile.{Tile}
 use Rattle.tile_store.specs.Squares.{has_pixel}
 use Rattle.tile_store.specs.Held.{TilesView, colour_at}
 use Rattle.guest_session.specs.SessionView.{IsPlace}

@@ -6,7 +6,7 @@ use Rattle.gui_num.specs.declared.Rect.{Rect}
 use Rattle.gui_num.specs.Rects.{nat_of}
 use Rattle.desk_laws.specs.Rows.{grid}
 use Rattle.tile_store.specs.declared.spot.Spot.{Spot}
-use Rattle.tile_store.specs.declared.shelf.Tile.{Tile}
+use Rattle.tile_store.specs.Tile.{Tile}
 use Rattle.tile_store.specs.Spots.{before, same, spot_of, spot_at, pixel_of}
 use Rattle.tile_store.specs.Squares.{blanks}
 use Rattle.tile_store.specs.Held.{tile_at, is_held, pixel_in, colour_at, blank_tile, placed, with_tile, opened, places_in_row, tiles_along, tiles_met, written_in, written}

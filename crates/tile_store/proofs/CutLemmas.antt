@@ -1,17 +1,17 @@
 -- What is read of a slot's pixel after a cut.
-use Rattle.std.proofs.Common.{◌≡◌, ℕ, zero, suc, ◌+◌, ◌-◌, ◌*◌, ◌/◌, ◌%◌, Bool, true, false, cond, not, ◌&&◌, eqb, ltb, List, [], ◌∷◌, get_or, Option, Some, None, is_some, option_map, ◌⊎◌, inl, inr, refl, sym, ap, ◌∙◌, arith}
+use Rattle.std.proofs.Common.{◌≡◌, ℕ, zero, suc, ◌+◌, ◌-◌, ◌*◌, ◌/◌, ◌%◌, Bool, true, false, cond, not, ◌&&◌, eqb, ltb, List, [], ◌∷◌, get_or, Option, Some, None, is_some, option_map, ◌⊎◌, inl, inr, refl, sym, ap, ◌∙◌, subst, arith}
 use Rattle.std.specs.List.{list_all}
 use Rattle.std.proofs.lemmas.Bool.{and_parts, or_parts, cases_Bool, ltb-true, ltb-false, lt-ltb, le-ltb}
 use Rattle.std.proofs.lemmas.Bool.Decides.{nat_tests}
 use Rattle.tile_store.specs.declared.spot.Spot.{Spot}
-use Rattle.tile_store.specs.declared.shelf.Tile.{Tile}
+use Rattle.tile_store.specs.Tile.{Tile}
 use Rattle.tile_store.specs.Spots.{before, same, spot_of}
 use Rattle.tile_store.specs.Squares.{has_pixel, is_inside, cut_from}
-use Rattle.tile_store.specs.Held.{tile_at, pixel_in, colour_at, rises, cut_tile, is_left, swept}
+use Rattle.tile_store.specs.Held.{tile_at, pixel_in, colour_at, rises, cut_tile, is_left, swept, dropped}
 use Rattle.tile_store.specs.Contents.{CutsAway, Empties}
 use Rattle.tile_store.proofs.OrderLemmas.{same-is}
 use Rattle.tile_store.proofs.HeldLemmas.{after, none-behind}
-use Rattle.tile_store.proofs.RiseLemmas.{cut-stays}
+use Rattle.tile_store.proofs.RiseLemmas.{cut-stays, swept-whole}
 use Rattle.tile_store.proofs.ContentLemmas.{found-same}
 
 -- no pixels at all
@@ -135,3 +135,9 @@ cuts-empties slot old new cuts s x y =
     by : (b : Bool) → cond (b && not (false && ltb y 0)) None (colour_at s x y old) ≡ cond b None (colour_at s x y old)
     by true = refl
     by false = refl
+
+-- nor has a slot whose tiles are gone
+pub dropped-empties : (slot : ℕ) (ts : List Tile) → rises ts ≡ true → Empties slot ts (dropped slot ts)
+dropped-empties slot ts rising =
+    let P : List Tile → Type 0 = λ us. Empties slot ts us in
+    subst P (swept-whole slot ts) (cuts-empties slot ts (swept slot 0 0 ts) (swept-cuts slot 0 0 ts rising))

@@ -3,7 +3,7 @@ use Rattle.std.proofs.Common.{◌≡◌, ℕ, zero, suc, ◌-◌, ◌<◌, ◌�
 use Rattle.std.specs.List.{list_all}
 use Rattle.std.proofs.lemmas.Bool.{and_parts, cond-true, cond-false, both_ways}
 use Rattle.tile_store.specs.declared.spot.Spot.{Spot}
-use Rattle.tile_store.specs.declared.shelf.Tile.{Tile}
+use Rattle.tile_store.specs.Tile.{Tile}
 use Rattle.tile_store.specs.Spots.{before, same}
 use Rattle.tile_store.specs.Held.{tile_at, is_held, pixel_in, rises, placed}
 use Rattle.tile_store.specs.Places.{IsPlaceFor, first_at, is_first}

@@ -8,7 +8,7 @@ use Rattle.std.proofs.lemmas.Bool.Decides.{nat_tests}
 use Rattle.desk_laws.specs.Rows.{Row, span, grid, content_at, content_of}
 use Rattle.desk_laws.specs.Tiles.{is_used, tiles_of}
 use Rattle.tile_store.specs.declared.spot.Spot.{Spot}
-use Rattle.tile_store.specs.declared.shelf.Tile.{Tile}
+use Rattle.tile_store.specs.Tile.{Tile}
 use Rattle.tile_store.specs.Spots.{same, spot_of}
 use Rattle.tile_store.specs.Held.{tile_at, is_held, rises}
 use Rattle.tile_store.proofs.OrderLemmas.{same-is, same-refl}

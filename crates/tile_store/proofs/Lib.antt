@@ -1,13 +1,16 @@
 pub mod SquareLemmas
 pub mod OrderLemmas
 pub mod HeldLemmas
-pub mod SweepLemmas
+pub mod EntryLemmas
+pub mod ShelfLemmas
 pub mod RiseLemmas
+pub mod SweepLemmas
 pub mod OpenLemmas
 pub mod ContentLemmas
 pub mod CutLemmas
 pub mod CountLemmas
 pub mod WholeLemmas
 pub mod RowLemmas
+pub mod KeepLemmas
 pub mod UsedLemmas
 pub mod InUseLemmas

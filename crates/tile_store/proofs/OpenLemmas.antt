@@ -5,7 +5,7 @@ use Rattle.std.proofs.lemmas.List.{length-append}
 use Rattle.std.proofs.lemmas.List.Elements.{filter-append}
 use Rattle.desk_laws.specs.Rows.{grid}
 use Rattle.tile_store.specs.declared.spot.Spot.{Spot}
-use Rattle.tile_store.specs.declared.shelf.Tile.{Tile}
+use Rattle.tile_store.specs.Tile.{Tile}
 use Rattle.tile_store.specs.Spots.{before, same, spot_of}
 use Rattle.tile_store.specs.Held.{tile_at, is_held, blank_tile, placed, with_tile, opened, missing, places_in_row, tiles_along}
 

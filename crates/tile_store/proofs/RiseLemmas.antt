@@ -3,7 +3,7 @@ use Rattle.std.proofs.Common.{◌≡◌, ℕ, suc, ◌-◌, ◌*◌, Bool, true,
 use Rattle.std.specs.List.{list_all}
 use Rattle.std.proofs.lemmas.Bool.{and_parts, and_from, both_ways, le-ltb}
 use Rattle.tile_store.specs.declared.spot.Spot.{Spot}
-use Rattle.tile_store.specs.declared.shelf.Tile.{Tile}
+use Rattle.tile_store.specs.Tile.{Tile}
 use Rattle.tile_store.specs.Spots.{before, same}
 use Rattle.tile_store.specs.Squares.{has_pixel, is_inside, cut_from}
 use Rattle.tile_store.specs.Held.{tile_at, is_held, rises, blank_tile, placed, with_tile, written_in, written, cut_tile, is_left, swept, dropped}

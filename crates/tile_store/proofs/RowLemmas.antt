@@ -1,7 +1,7 @@
 -- Colours that are put at a row of a tile at once.
 use Rattle.std.proofs.Common.{◌≡◌, ℕ, suc, ◌+◌, ◌*◌, ◌/◌, ◌%◌, ◌^◌, ◌<◌, ◌≤◌, Bool, true, false, cond, eqb, List, [], ◌∷◌, length, get_or, set, Some, refl, sym, ap, ◌∙◌, arith}
 use Rattle.tile_store.specs.declared.spot.Spot.{Spot}
-use Rattle.tile_store.specs.declared.shelf.Tile.{Tile}
+use Rattle.tile_store.specs.Tile.{Tile}
 use Rattle.tile_store.specs.Spots.{same, spot_of}
 use Rattle.tile_store.specs.Squares.{coloured_from}
 use Rattle.tile_store.specs.Held.{is_held, is_whole, are_whole, rises, written, row_written_in, row_written, places_in_row}

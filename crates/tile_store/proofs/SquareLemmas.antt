@@ -10,10 +10,6 @@ unfolding blanks
 shown-nothing zero = refl
 shown-nothing (suc n) = ap (λ rest. None ∷ rest) (shown-nothing n)
 
--- words that all stand for nothing
-pub shown-blank : (words : List ℕ) (n : ℕ) → words ≡ replicate n 4278190080 → n ≡ 4096 → all_shown words ≡ blanks 4096
-shown-blank words n e size = ap all_shown e ∙ shown-nothing n ∙ ap blanks size
-
 pub shown-colour : (colour : ℕ) → colour < 16777216 → shown colour ≡ Some colour
 shown-colour colour few = ap (λ b. cond b (Some colour) None) (lt-ltb colour 16777216 few)
 

@@ -6,7 +6,7 @@ use Rattle.std.proofs.lemmas.Bool.{and_parts, or_left, or_right, or_cases, eqb-t
 use Rattle.desk_laws.specs.Rows.{Row, span, grid, content_at}
 use Rattle.desk_laws.specs.Tiles.{is_used}
 use Rattle.tile_store.specs.declared.spot.Spot.{Spot}
-use Rattle.tile_store.specs.declared.shelf.Tile.{Tile}
+use Rattle.tile_store.specs.Tile.{Tile}
 use Rattle.tile_store.specs.Spots.{same, spot_of}
 use Rattle.tile_store.specs.Squares.{has_pixel}
 use Rattle.tile_store.specs.Held.{tile_at, is_held, pixel_in, colour_at, is_whole, are_whole, is_left}

@@ -4,7 +4,7 @@ use Rattle.std.specs.List.{list_all}
 use Rattle.std.proofs.lemmas.Bool.{eq-eqb}
 use Rattle.std.proofs.lemmas.List.{length-set}
 use Rattle.tile_store.specs.declared.spot.Spot.{Spot}
-use Rattle.tile_store.specs.declared.shelf.Tile.{Tile}
+use Rattle.tile_store.specs.Tile.{Tile}
 use Rattle.tile_store.specs.Spots.{same}
 use Rattle.tile_store.specs.Squares.{blanks, cut_from}
 use Rattle.tile_store.specs.Held.{is_held, is_whole, are_whole, blank_tile, placed, with_tile, written_in, written, cut_tile, is_left, swept}

@@ -6,7 +6,7 @@ use Rattle.gui_num.specs.declared.Point.{Point}
 use Rattle.gui_num.specs.declared.Rect.{Rect}
 use Rattle.gui_num.specs.Rects.{nat_of}
 use Rattle.tile_store.specs.declared.spot.Spot.{Spot}
-use Rattle.tile_store.specs.declared.shelf.Tile.{Tile}
+use Rattle.tile_store.specs.Tile.{Tile}
 use Rattle.tile_store.specs.Spots.{spot_of}
 use Rattle.tile_store.specs.Held.{is_held, colour_at, written}
 

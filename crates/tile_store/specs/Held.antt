@@ -1,5 +1,5 @@
 -- The tiles that are held, in the order of their spots.
-use Rattle.std.specs.Prelude.{ℕ, zero, suc, ◌++◌, ◌+◌, ◌-◌, ◌*◌, ◌/◌, ◌%◌, Bool, true, not, ◌&&◌, ◌||◌, ◌==◌, List, [], ◌∷◌, length, map, filter, find, Option, Some, None, is_some, if◌then◌else◌, pos, int_le, slice_index_or, slice_set}
+use Rattle.std.specs.Prelude.{ℕ, ◌+◌, ◌-◌, ◌*◌, ◌/◌, ◌%◌, Bool, true, not, ◌&&◌, ◌||◌, ◌==◌, List, [], ◌∷◌, length, map, filter, find, Option, Some, None, is_some, if◌then◌else◌, pos, int_le, slice_index_or, slice_set}
 use Rattle.std.specs.List.{list_all}
 use Rattle.desk_laws.specs.declared.limits.TheConstants.{TILE_SIDE}
 use Rattle.tile_store.specs.declared.square.TheConstants.{PIXELS}
@@ -8,7 +8,7 @@ use Rattle.gui_num.specs.declared.Rect.{Rect}
 use Rattle.gui_num.specs.Rects.{nat_of}
 use Rattle.desk_laws.specs.Rows.{span, grid}
 use Rattle.tile_store.specs.declared.spot.Spot.{Spot}
-use Rattle.tile_store.specs.declared.shelf.Tile.{Tile}
+use Rattle.tile_store.specs.Tile.{Tile}
 use Rattle.tile_store.specs.Spots.{before, same, spot_of}
 use Rattle.tile_store.specs.Squares.{blank, has_pixel, coloured_from, cut_from}
 
@@ -117,12 +117,6 @@ is_left slot t = not (t.spot.slot == slot) || has_pixel t.square
 -- the tiles of a slot cut to w columns and h rows, without those that have no pixel left
 abbrev pub swept : ℕ → ℕ → ℕ → List Tile → List Tile
 swept slot w h held = filter (is_left slot) (map (cut_tile slot w h) held)
-
--- the tiles of which the one at a place is cut so
-abbrev pub swept_at : ℕ → ℕ → ℕ → ℕ → List Tile → List Tile
-swept_at slot w h i [] = []
-swept_at slot w h zero (t ∷ ts) = swept slot w h (t ∷ []) ++ ts
-swept_at slot w h (suc i) (t ∷ ts) = t ∷ swept_at slot w h i ts
 
 -- the tiles of all slots but this
 abbrev pub dropped : ℕ → List Tile → List Tile

@@ -1,5 +1,6 @@
 pub mod Spots
 pub mod Squares
+pub mod Tile
 pub mod Held
 pub mod Places
 pub mod Kept

@@ -5,8 +5,6 @@ ghost use Rattle.tile_store.specs.Contents.{colour_or};
 ghost use Rattle.std.specs.List.{list_any};
 
 use desk_laws::TILE_SIDE;
-use gui_num::NoMemory;
-use std::alloc::Global;
 use std::marker::Model;
 
 // The side of a tile, in pixels.
@@ -18,10 +16,10 @@ pub const PIXELS: usize = SIDE * SIDE;
 // Stands where nothing was read.
 const NOTHING: u32 = 0xff00_0000;
 
-// The pixels of a tile, row by row: a colour each, or nothing.
+// The pixels of a tile, row by row: a colour each, or nothing. Squares of a `Vec` lie in one block.
 #[derive(Drop)]
 pub struct Square {
-    words: Vec<u32>,
+    words: [u32; PIXELS],
 }
 
 impl Model for Square {
@@ -31,25 +29,26 @@ impl Model for Square {
 
     ghost Value = { List (Option ℕ) };
 
-    ghost view = { λ s. all_shown s.words.items };
+    ghost view = { λ s. all_shown s.words };
 
-    ghost invariant = { λ s. length s.words.items ≡ PIXELS };
+    ghost invariant = { λ s. length s.words ≡ PIXELS };
 }
 
 impl Square {
     // A tile of which nothing was read.
-    pub(crate) fn new(alloc: Global) -> Result<Square, NoMemory>
-        ensures { IfOk result (λ square. square ≡ blank) }
+    pub(crate) fn new() -> Square
+        ensures { result ≡ blank }
     {
-        let words = vec![in alloc; NOTHING; PIXELS]?;
-        Ok(Square { words })
+        Square {
+            words: [NOTHING; PIXELS],
+        }
     }
 
     // Forgets all pixels.
     pub(crate) fn clear(&mut self)
         ensures { self.new ≡ blank }
     {
-        self.words.fill(NOTHING);
+        self.words = [NOTHING; PIXELS];
     }
 
     // The colour of a pixel, if something was read there.
@@ -111,9 +110,9 @@ impl Square {
 }
 
 // Forgets the words outside the first w columns and h rows.
-fn cut_all(words: &mut Vec<u32>, w: u32, h: u32)
-    requires { length words.old.items ≡ PIXELS }
-    ensures { words.new.items ≡ cut_words 0 w h words.old.items }
+fn cut_all(words: &mut [u32; PIXELS], w: u32, h: u32)
+    requires { length words.old ≡ PIXELS }
+    ensures { words.new ≡ cut_words 0 w h words.old }
 {
     for k in 0..PIXELS as u32 {
         words[k as usize] = cut_word(words[k as usize], k, w, h);
@@ -139,9 +138,9 @@ fn some_colour(words: &[u32]) -> bool
 }
 
 // Puts these words in the place of as many, from the one with number k on.
-fn put_words(words: &mut Vec<u32>, k: usize, put: &[u32])
-    requires { k + length put.now ≤ length words.old.items }
-    ensures { words.new.items ≡ take k words.old.items ++ put.now ++ drop (k + length put.now) words.old.items }
+fn put_words(words: &mut [u32; PIXELS], k: usize, put: &[u32])
+    requires { k + length put.now ≤ length words.old }
+    ensures { words.new ≡ take k words.old ++ put.now ++ drop (k + length put.now) words.old }
 {
     words[k..k + put.len()].copy_from_slice(put);
 }

@@ -162,6 +162,11 @@ fn gives_tiles_back(rt: HostRuntime) -> Result<(), Fail> {
     store.drop_slot(5);
     store.drop_slot(6);
     assert_eq!(rt; store.free(), 8);
+    assert!(rt; open(&mut store, 7, 512, 64));
+    for x in [63, 127, 191, 255, 319, 383, 447, 511].iter() {
+        assert_eq!(rt; at(&store, 7, *x, 63), None);
+    }
+    store.drop_slot(7);
     assert!(rt; colour(&mut store, 9, 70, 3, 0x00ff00));
     assert!(rt; open(&mut store, 10, 64, 64));
     assert_eq!(rt; store.free(), 6);

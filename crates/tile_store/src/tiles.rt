@@ -5,9 +5,10 @@ ghost use Rattle.desk_laws.specs.Rows.{span, grid};
 ghost use Rattle.tile_store.specs.declared.square.TheConstants.{PIXELS};
 ghost use Rattle.tile_store.specs.Spots.{spot_of, spot_at, pixel_of};
 ghost use Rattle.tile_store.specs.Held.{TilesView, rises, are_whole, content, is_held, with_tile, opened, missing, tiles_along, tiles_met, written, swept, dropped, places_in_row};
+ghost use Rattle.tile_store.specs.Kept.{tiles_in, laid, numbers, AreOnce};
 ghost use Rattle.tile_store.specs.Contents.{KeepsAll, HoldsAll, KeepsHeld, ColoursOne, CutsAway, Empties, tiles_coloured, row_colours};
 
-use crate::shelf::{Tile, add, give_back, has, read, read_part, sweep, write, write_row};
+use crate::shelf::{Entry, add, close_up, has, read, read_part, sweep, write, write_row};
 use crate::spot::Spot;
 use crate::square::{SIDE, Square};
 use desk_laws::TILE_SIDE;
@@ -20,25 +21,27 @@ use std::marker::Model;
 /// memory for; nothing but its held tiles is kept for a slot.
 ///
 /// The held tiles stand in the order of slot, row and column, and a tile is found by halving: among
-/// 4096 tiles by at most 13 comparisons. Opening or giving back a tile moves the entries behind it, 40
-/// bytes each, and no pixels.
+/// 4096 tiles by at most 13 comparisons. Opening or giving back a tile moves the entries behind it, 16
+/// bytes each, and no pixels. The pixels of all tiles lie in one block, 16 KB a tile, of which no page
+/// is touched before as many tiles are held at once.
 #[derive(Drop)]
 pub struct Tiles {
-    held: Vec<Tile>,
-    spare: Vec<Square>,
+    held: Vec<Entry>,
+    squares: Vec<Square>,
+    spare: Vec<u32>,
     number: u32,
 }
 
 impl Model for Tiles {
     ghost use Rattle.std.specs.Prelude.{vec_capacity};
     ghost use Rattle.tile_store.specs.Held.{TilesView};
-    ghost use Rattle.tile_store.specs.Kept.{IsKept};
+    ghost use Rattle.tile_store.specs.Kept.{IsKept, tiles_in};
 
     ghost Value = { TilesView };
 
-    ghost view = { λ t. record { number = t.number; held = t.held.items } };
+    ghost view = { λ t. record { number = t.number; held = tiles_in t.squares.items t.held.items } };
 
-    ghost invariant = { λ t. IsKept t.held.items t.spare.items (vec_capacity t.held) (vec_capacity t.spare) t.number };
+    ghost invariant = { λ t. IsKept t.held.items t.squares.items t.spare.items (vec_capacity t.held) (vec_capacity t.squares) (vec_capacity t.spare) t.number };
 }
 
 impl Tiles {
@@ -48,9 +51,11 @@ impl Tiles {
         ensures { IfOk result (λ store. store ≡ record { number = tiles; held = [] }) }
     {
         let held = Vec::with_capacity(alloc, tiles as usize)?;
-        let spare = squares(alloc, tiles)?;
+        let squares = Vec::with_capacity(alloc, tiles as usize)?;
+        let spare = Vec::with_capacity(alloc, tiles as usize)?;
         Ok(Tiles {
             held,
+            squares,
             spare,
             number: tiles,
         })
@@ -119,7 +124,7 @@ impl Tiles {
         requires { is_held spot self.old.held ≡ false → length self.old.held < self.old.number }
         ensures { self.new ≡ record self.old { held = with_tile spot self.old.held } }
     {
-        add(&mut self.held, &mut self.spare, spot);
+        add(&mut self.held, &mut self.squares, &mut self.spare, spot);
     }
 
     /// Gives a pixel of a slot, whose tile is held, a colour.
@@ -132,7 +137,13 @@ impl Tiles {
         ensures one { ColoursOne slot p colour self.old.held self.new.held }
         ensures stay { KeepsHeld self.old.held self.new.held }
     {
-        write(&mut self.held, lies_in(slot, p), index_of(p), colour);
+        write(
+            &self.held,
+            &mut self.squares,
+            lies_in(slot, p),
+            index_of(p),
+            colour,
+        );
     }
 
     /// Gives the pixels of a slot from column `x` on in row `y` these colours, from left to right. They
@@ -150,7 +161,7 @@ impl Tiles {
             row: y / TILE_SIDE,
         };
         let k = y as usize % SIDE * SIDE + x as usize % SIDE;
-        write_row(&mut self.held, spot, k, colours);
+        write_row(&self.held, &mut self.squares, spot, k, colours);
     }
 
     /// The colour of a pixel of a slot, `None` exactly where nothing was put there since it was last
@@ -161,7 +172,7 @@ impl Tiles {
         if p.x < 0 || p.y < 0 {
             return None;
         }
-        read(&self.held, lies_in(slot, p), index_of(p))
+        read(&self.held, &self.squares, lies_in(slot, p), index_of(p))
     }
 
     /// Writes the colours of a slot's pixels from column `x` on in row `y`, as many as `out` has room
@@ -170,7 +181,7 @@ impl Tiles {
         requires { x + length out.old ≤ 65536 }
         ensures { out.new ≡ row_colours slot blank x y (length out.old) self.now.held }
     {
-        read_parts(&self.held, slot, x, y, blank, out);
+        read_parts(&self.held, &self.squares, slot, x, y, blank, out);
     }
 
     /// Forgets the pixels of a slot outside its first `w` columns and `h` rows, and gives back each of
@@ -179,7 +190,14 @@ impl Tiles {
         ensures cut { self.new ≡ record self.old { held = swept slot w h self.old.held } }
         ensures pixels { CutsAway slot w h self.old.held self.new.held }
     {
-        sweep(&mut self.held, &mut self.spare, slot, w, h);
+        sweep(
+            &mut self.held,
+            &mut self.squares,
+            &mut self.spare,
+            slot,
+            w,
+            h,
+        );
     }
 
     /// Forgets all pixels of a slot, and gives back its tiles.
@@ -187,14 +205,16 @@ impl Tiles {
         ensures dropped { self.new ≡ record self.old { held = dropped slot self.old.held } }
         ensures pixels { Empties slot self.old.held self.new.held }
     {
-        self.cut(slot, 0, 0);
+        close_up(&mut self.held, &self.squares, &mut self.spare, slot, true);
     }
 
     /// Forgets all pixels, and gives back all tiles.
     pub fn clear(&mut self)
         ensures { self.new ≡ record self.old { held = [] } }
     {
-        give_back(&mut self.held, &mut self.spare);
+        self.held.clear();
+        self.squares.clear();
+        self.spare.clear();
     }
 }
 
@@ -243,25 +263,14 @@ fn tile_past(a: i32, n: u32) -> u32
     (a as u32 + n + (TILE_SIDE - 1)) / TILE_SIDE
 }
 
-// The pixels of so many tiles.
-fn squares(alloc: Global, number: u32) -> Result<Vec<Square>, NoMemory>
-    ensures { IfOk result (λ spare. (vec_len spare ≡ number) × (vec_capacity spare ≡ number)) }
-{
-    let mut spare = Vec::with_capacity(alloc, number as usize)?;
-    for _ in 0..number {
-        spare.push_reserved(Square::new(alloc)?);
-    }
-    Ok(spare)
-}
-
 // How many tiles of a slot aren't held, from one column up to another and from one row up to another.
-fn count_missing(held: &[Tile], slot: u32, from: u32, to: u32, top: u32, below: u32) -> u32
-    requires rising { rises held.now ≡ true }
+fn count_missing(held: &[Entry], slot: u32, from: u32, to: u32, top: u32, below: u32) -> u32
+    requires rising { rises (laid held.now) ≡ true }
     requires columns { from ≤ to }
     requires wide { to - from ≤ 1024 }
     requires rows { top ≤ below }
     requires high { below - top ≤ 1024 }
-    ensures { result ≡ missing slot (grid from top (to - from) (below - top)) held.now }
+    ensures { result ≡ missing slot (grid from top (to - from) (below - top)) (laid held.now) }
 {
     let mut count = 0;
     for row in top..below {
@@ -271,10 +280,10 @@ fn count_missing(held: &[Tile], slot: u32, from: u32, to: u32, top: u32, below: 
 }
 
 // How many tiles of a slot's row of tiles aren't held, from one column up to another.
-fn missing_in_row(held: &[Tile], slot: u32, row: u32, from: u32, to: u32) -> u32
-    requires rising { rises held.now ≡ true }
+fn missing_in_row(held: &[Entry], slot: u32, row: u32, from: u32, to: u32) -> u32
+    requires rising { rises (laid held.now) ≡ true }
     requires columns { from ≤ to }
-    ensures count { result ≡ missing slot (places_in_row row from (to - from)) held.now }
+    ensures count { result ≡ missing slot (places_in_row row from (to - from)) (laid held.now) }
     ensures few { result ≤ to - from }
 {
     let mut count = 0;
@@ -288,10 +297,19 @@ fn missing_in_row(held: &[Tile], slot: u32, row: u32, from: u32, to: u32) -> u32
 
 // Writes the colours of a slot's pixels from column x on in row y, those of one tile after those of
 // another.
-fn read_parts(held: &[Tile], slot: u32, x: u32, y: u32, blank: u32, out: &mut [u32])
-    requires rising { rises held.now ≡ true }
+fn read_parts(
+    held: &[Entry],
+    squares: &[Square],
+    slot: u32,
+    x: u32,
+    y: u32,
+    blank: u32,
+    out: &mut [u32],
+)
+    requires rising { rises (tiles_in squares.now held.now) ≡ true }
+    requires once { AreOnce (numbers held.now) (length squares.now) }
     requires columns { x + length out.old ≤ 65536 }
-    ensures { out.new ≡ row_colours slot blank x y (length out.old) held.now }
+    ensures { out.new ≡ row_colours slot blank x y (length out.old) (tiles_in squares.now held.now) }
 {
     let mut done = 0;
     let mut near = 0;
@@ -304,7 +322,7 @@ fn read_parts(held: &[Tile], slot: u32, x: u32, y: u32, blank: u32, out: &mut [u
         };
         let n = part_of(from, out.len() - done);
         let k = y as usize % SIDE * SIDE + from as usize % SIDE;
-        near = read_part(held, near, spot, k, n, blank, out, done);
+        near = read_part(held, squares, near, spot, k, n, blank, out, done);
         done += n;
     }
 }

@@ -1,6 +1,6 @@
 use Rattle.std.proofs.Common.{◌≡◌, ◌≤◌, ℕ, List, map, take, replicate, length, get_or, ap, subst, sym, ◌∙◌, arith}
 use Rattle.frame_pool.specs.Runs.{run_of}
-use Rattle.tile_store.specs.declared.shelf.Tile.{Tile}
+use Rattle.tile_store.specs.Tile.{Tile}
 use Rattle.tile_store.specs.Held.{TilesView, places_in_row}
 use Rattle.tile_store.specs.Contents.{tiles_coloured}
 use Rattle.guest_session.specs.Areas.{colour_of, dump_at}

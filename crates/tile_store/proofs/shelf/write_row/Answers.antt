@@ -1,22 +1,22 @@
-use Rattle.std.proofs.Common.{◌∙◌, List, length, ap, subst, arith}
-use Rattle.tile_store.specs.declared.shelf.Tile.{Tile}
+use Rattle.std.proofs.Common.{arith}
+use Rattle.tile_store.specs.declared.shelf.Entry.{Entry}
 use Rattle.tile_store.specs.Squares.{coloured_from}
-use Rattle.tile_store.specs.Places.{IsPlaceFor}
-use Rattle.tile_store.proofs.HeldLemmas.{held-here, held-inside, changed-here}
+use Rattle.tile_store.proofs.ShelfLemmas.{held-below, held-number, changed-entry}
 use Rattle.tile_store.proofs.shelf.write_row.Goals as goal
 
-pub index_mut-tile-requires : goal.index_mut-tile-requires
-index_mut-tile-requires c =
-    let P : List Tile → Type 0 = λ held. IsPlaceFor c.args.spot held c.place_for-i.result in
-    let place = subst P c.deref.ensures.value c.place_for-i.ensures in
-    let first = held-here c.args.spot c.args.held.now.items c.place_for-i.result c.requires.rising place ∙ c.requires.held in
-    let inside = held-inside c.args.spot c.args.held.now.items c.place_for-i.result first in
-    omega (arith, inside, ap length c.deref.ensures.value, c.deref.ensures.len)
+pub bounds-held-i : goal.bounds-held-i
+bounds-held-i c =
+    let d : Entry = record { spot = record { slot = 0; column = 0; row = 0 }; number = 0 } in
+    held-below c.args.squares.now.items c.args.held.now c.args.spot c.place_for-i.result d c.requires.rising c.requires.once c.place_for-i.ensures c.requires.held
+
+pub index_mut-square-requires : goal.index_mut-square-requires
+index_mut-square-requires c =
+    let d : Entry = record { spot = record { slot = 0; column = 0; row = 0 }; number = 0 } in
+    let below = held-number c.args.squares.now.items c.args.held.now c.args.spot c.place_for-i.result d c.requires.rising c.requires.once c.place_for-i.ensures c.requires.held in
+    omega (arith, below)
 
 pub returns-clause-held : goal.returns-clause-held
 returns-clause-held c =
-    let P : List Tile → Type 0 = λ held. IsPlaceFor c.args.spot held c.place_for-i.result in
-    let place = subst P c.deref.ensures.value c.place_for-i.ensures in
-    let first = held-here c.args.spot c.args.held.now.items c.place_for-i.result c.requires.rising place ∙ c.requires.held in
-    changed-here c.args.spot (coloured_from c.args.k c.args.colours.now) c.args.held.now.items c.place_for-i.result c.index_mut-tile.result.now c.set_row.new.self
-    c.requires.rising place first c.index_mut-tile.ensures.value c.set_row.ensures
+    let d : Entry = record { spot = record { slot = 0; column = 0; row = 0 }; number = 0 } in
+    changed-entry c.args.squares.now.items c.args.held.now c.args.spot c.place_for-i.result d c.requires.rising c.requires.once c.place_for-i.ensures c.requires.held
+    (coloured_from c.args.k c.args.colours.now) c.index_mut-square.result.now c.set_row.new.self c.index_mut-square.ensures.value c.set_row.ensures

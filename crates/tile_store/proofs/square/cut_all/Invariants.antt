@@ -4,5 +4,5 @@ use Rattle.tile_store.proofs.square.cut_all.Given as goal
 
 abbrev pub invariant-loop-k : goal.invariant-loop-k
 invariant-loop-k l =
-    (take l.k l.words.items ++ cut_words l.k l.w l.h (drop l.k l.words.items) ≡ cut_words 0 l.w l.h l.fn.words.items)
-    × (length l.words.items ≡ 4096)
+    (take l.k l.words ++ cut_words l.k l.w l.h (drop l.k l.words) ≡ cut_words 0 l.w l.h l.fn.words)
+    × (length l.words ≡ 4096)

@@ -1,8 +1,10 @@
 use Rattle.std.proofs.Common.{rules, ◌≡◌, ◌∙◌, ℕ, ◌+◌, ◌-◌, ◌/◌, ◌≤◌, List, length, refl, sym, ap, subst, arith}
+use Rattle.std.proofs.lemmas.List.{length-map}
 use Rattle.gui_num.specs.Rects.{nat_of}
 use Rattle.desk_laws.specs.Rows.{grid}
-use Rattle.tile_store.specs.declared.shelf.Tile.{Tile}
+use Rattle.tile_store.specs.Tile.{Tile}
 use Rattle.tile_store.specs.Held.{TilesView, opened, missing, places_in_row, tiles_along, tiles_met}
+use Rattle.tile_store.specs.Kept.{tile_in}
 use Rattle.tile_store.specs.Contents.{KeepsAll, HoldsAll, KeepsHeld}
 use Rattle.tile_store.proofs.ContentLemmas.{opened-keeps, opened-holds, opened-held}
 use Rattle.tile_store.proofs.CountLemmas.{opened-count}
@@ -18,7 +20,14 @@ loop-row-init c =
     let below : c.tile_past-below.result ≡ nat_of r.y / 64 + tiles_along (nat_of r.y) r.h = search rules in
     let met = met-between (nat_of r.x) (nat_of r.y) r.w r.h c.tile_of-from.result c.tile_past-to.result c.tile_of-top.result c.tile_past-below.result from to top below in
     let few : length c.args.self.now.held ≤ c.args.self.now.number =
-    omega (arith, c.self.invariant.together, ap (λ (v : TilesView). v.number) c.self.view_is, ap (λ (v : TilesView). length v.held) c.self.view_is) in (
+    omega (
+      arith,
+      c.self.invariant.together,
+      c.self.invariant.taken,
+      length-map c.self.inside.held.items (tile_in c.self.inside.squares.items),
+      ap (λ (v : TilesView). v.number) c.self.view_is,
+      ap (λ (v : TilesView). length v.held) c.self.view_is,
+    ) in (
       record {
         ends = ap (λ places. opened c.args.slot places c.args.self.now.held) met;
         room = omega (arith, c.requires.room, few, ap (λ places. missing c.args.slot places c.args.self.now.held) met);

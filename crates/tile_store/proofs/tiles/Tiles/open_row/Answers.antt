@@ -1,5 +1,5 @@
 use Rattle.std.proofs.Common.{◌∙◌, ◌+◌, ◌-◌, ℕ, List, sym, ap, subst}
-use Rattle.tile_store.specs.declared.shelf.Tile.{Tile}
+use Rattle.tile_store.specs.Tile.{Tile}
 use Rattle.tile_store.specs.Held.{opened, places_in_row}
 use Rattle.tile_store.proofs.OpenLemmas.{Opening, opening-next, row-next}
 use Rattle.tile_store.proofs.tiles.Tiles.open_row.Goals as goal
