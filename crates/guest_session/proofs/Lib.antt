@@ -12,6 +12,7 @@ pub mod ReplyLemmas
 pub mod HeadLemmas
 pub mod PlaceLemmas
 pub mod GrantLemmas
+pub mod GrantedLemmas
 pub mod ObeyLemmas
 pub mod FrontFacts
 pub mod TurnLemmas

@@ -6,6 +6,7 @@ pub mod RowsView
 pub mod Desk
 pub mod Edits
 pub mod Placing
+pub mod Grants
 pub mod Obeyed
 pub mod Parts
 pub mod Reading

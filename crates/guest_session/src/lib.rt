@@ -7,6 +7,7 @@
 
 mod desk;
 mod edit;
+mod grant;
 mod obey;
 mod place;
 mod read;

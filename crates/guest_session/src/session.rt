@@ -5,9 +5,13 @@ ghost use Rattle.desk_laws.specs.declared.cause.Cause.{Cause};
 ghost use Rattle.desk_laws.specs.Rules.{first_broken};
 ghost use Rattle.desk_laws.specs.Sizes.{sizes_of};
 ghost use Rattle.desk_laws.specs.Rows.{row_with, span};
+ghost use Rattle.gui_wire.specs.declared.limits.TheConstants.{MAX_CLIPBOARD_SIZE};
+ghost use Rattle.desk_laws.specs.Grants.{granted};
+ghost use Rattle.desk_laws.specs.Scene.{replies};
 ghost use Rattle.desk_laws.specs.Stream.{front};
 ghost use Rattle.desk_laws.specs.Stream as cut;
 ghost use Rattle.frame_pool.specs.Ports.{ChangesFrames};
+ghost use Rattle.io_ports.specs.Posts.{Leads};
 ghost use Rattle.in_stream.specs.Received.{StandsFor};
 ghost use Rattle.in_stream.specs.Taking.{DropsUnit};
 ghost use Rattle.guest_session.specs.SessionView.{HasRows, IsEnded, IsPlace, opened, with_stream};
@@ -16,20 +20,26 @@ ghost use Rattle.guest_session.specs.Clips.{BeginsWithClip, HasClip, HasKeptClip
 ghost use Rattle.tile_store.specs.Contents.{colour_or};
 ghost use Rattle.guest_session.specs.Reading.{content_in};
 ghost use Rattle.guest_session.specs.Turns.{Turns};
+ghost use Rattle.guest_session.specs.Grants.{FitsGrant};
 
 use crate::Turn;
 use crate::desk::desk_of;
+use crate::grant::grant;
 use crate::rows::Rows;
 use crate::units::{ended_by, take_unit};
-use desk_laws::{Cause, Setup};
+use desk_laws::{Cause, GIn, Setup};
 use frame_pool::FramePort;
 use gui_num::{Colour, NoMemory};
+use gui_wire::MAX_CLIPBOARD_SIZE;
 use in_stream::{Front, InStream};
 use io_ports::Outlet;
 use redirect_limits::DeskSize;
 use std::alloc::Global;
 use std::marker::Model;
 use window_table::Pane;
+
+// How many bytes the header of a message has.
+const HEAD_LEN: usize = 12;
 
 /// One guest's session: the bytes that were taken of it, its windows in the order of their CREATE, its
 /// minor version, and why it ended, if it did. It knows no other guest, and nothing of what lies on
@@ -44,9 +54,13 @@ pub struct Session {
     rows: Rows,
     minor: u32,
     ended: Option<Cause>,
+    // Where the message of a grant is spelled: room for the longest one.
+    room: Vec<u8>,
 }
 
 impl Model for Session {
+    ghost use Rattle.std.specs.Prelude.{◌≡◌, ◌+◌, length};
+    ghost use Rattle.gui_wire.specs.declared.limits.TheConstants.{MAX_CLIPBOARD_SIZE};
     ghost use Rattle.guest_session.specs.SessionView.{SessionView};
     ghost use Rattle.guest_session.specs.Desk.{FitDesk, sizes_in};
     ghost use Rattle.guest_session.specs.Parts.{joined};
@@ -55,7 +69,14 @@ impl Model for Session {
 
     ghost view = { λ s. joined (sizes_in s.desk s.rows) s.stream s.rows s.minor s.ended };
 
-    ghost invariant = { λ s. FitDesk s.desk };
+    ghost invariant = { λ s. FitDesk s.desk × (length s.room.items ≡ 12 + MAX_CLIPBOARD_SIZE) };
+}
+
+// A room for so many bytes.
+fn room_for(alloc: Global, len: usize) -> Result<Vec<u8>, NoMemory>
+    ensures { IfOk result (λ room. length room.items ≡ len) }
+{
+    Ok(vec![in alloc; 0; len]?)
 }
 
 impl Session {
@@ -75,6 +96,7 @@ impl Session {
             rows: Rows::new(alloc, guest, setup.pages, setup.tiles)?,
             minor: 0,
             ended: None,
+            room: room_for(alloc, HEAD_LEN + MAX_CLIPBOARD_SIZE as usize)?,
         })
     }
 
@@ -158,6 +180,23 @@ impl Session {
     {
         self.rows.clear();
         self.ended = Some(cause);
+    }
+
+    /// Grants the guest an input: does to the window what is granted (another place, shown again) and
+    /// posts the message that tells it, nothing where the window isn't there. `paste` is what CLIPBOARD_DATA
+    /// carries, at most `MAX_CLIPBOARD_SIZE` bytes, and of no matter for all other inputs. A place is in
+    /// the range of places: from -32768 to 32767, and from 1 by 1 to the greatest window.
+    ///
+    /// Posted are KEYPRESS, BUTTON, MOTION, CROSSING, FOCUS, KEYMAP_NOTIFY, CLOSE, CONFIGURE,
+    /// CLIPBOARD_REQ and CLIPBOARD_DATA of the Qubes GUI protocol; a window that is shown again is told
+    /// nothing.
+    pub fn grant<O: Outlet>(&mut self, input: &GIn, paste: &[u8], out: &mut O)
+        requires fits { FitsGrant input.now }
+        requires paste { length paste.now ≤ MAX_CLIPBOARD_SIZE }
+        ensures session { self.new ≡ record self.old { rows = (granted self.old.guest self.old.rows input.now paste.now).rows } }
+        ensures told { Leads O.takes out.old (replies self.old.guest (granted self.old.guest self.old.rows input.now paste.now).answers) out.new }
+    {
+        grant(&mut self.rows, input, paste, &mut self.room, out);
     }
 
     /// Why the session ended, `None` exactly while it hasn't.
