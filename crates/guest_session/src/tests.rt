@@ -1,9 +1,10 @@
 // One session each, with hand-computed answers, on a desktop of 8 by 6. What each message does is told by
 // the definitions, and by the tests of the program.
 ghost use Rattle.std.specs.Prelude.{◌≡◌, ◌<◌, ◌≤◌, None, length};
+ghost use Rattle.guest_session.specs.Grants.{FitsGrant};
 
 use super::*;
-use desk_laws::{Cause, GuestSetup, Guests, Name, Setup};
+use desk_laws::{Cause, GIn, GuestSetup, Guests, Name, Setup};
 use frame_pool::TapePort;
 use gui_num::{Colour, NoMemory, Rect};
 use io_ports::PostList;
@@ -20,6 +21,8 @@ const MAP: u32 = 132;
 const SHMIMAGE: u32 = 136;
 
 const TITLE: u32 = 141;
+
+const FLAGS: u32 = 145;
 
 const DUMP: u32 = 147;
 
@@ -111,6 +114,13 @@ impl Run {
 
     fn end(&mut self, cause: Cause) {
         self.session.end(cause);
+    }
+
+    // Grants an input, with three bytes for the clipboard.
+    fn grant(&mut self, input: GIn)
+        requires { FitsGrant input }
+    {
+        self.session.grant(&input, &[7, 8, 9], &mut self.out);
     }
 
     // How many bytes of clipboard data stand in front, which are then dropped.
@@ -271,5 +281,62 @@ fn reads_a_row_in_runs(rt: HostRuntime) -> Result<(), NoMemory> {
             9, 1, 2, 3, 4, 5, 6, 7, 8, 9, 10, 11, 12, 13, 14, 15, 16, 17, 18, 19, 20, 9
         ]
     );
+    Ok(())
+}
+
+// A pressed key, with Shift held: type, window, length; kind, place, state and code.
+const KEY: [u8; 32] = [
+    124, 0, 0, 0, 1, 0, 0, 0, 20, 0, 0, 0, 2, 0, 0, 0, 0, 0, 0, 0, 0, 0, 0, 0, 1, 0, 0, 0, 38, 0,
+    0, 0,
+];
+
+// A place of 3 by 2 pixels from (-1, 5) on.
+const PLACED: [u8; 32] = [
+    134, 0, 0, 0, 1, 0, 0, 0, 20, 0, 0, 0, 255, 255, 255, 255, 5, 0, 0, 0, 3, 0, 0, 0, 2, 0, 0, 0,
+    0, 0, 0, 0,
+];
+
+// The clipboard's three bytes.
+const PASTED: [u8; 15] = [140, 0, 0, 0, 1, 0, 0, 0, 3, 0, 0, 0, 7, 8, 9];
+
+#[test]
+fn tells_what_is_granted(rt: HostRuntime) -> Result<(), NoMemory> {
+    let mut run = ready(rt.alloc(), &SEVEN)?;
+    run.send(CREATE, 1, &[2, 2, 3, 1, 0, 0]);
+    run.grant(GIn::Key {
+        window: 1,
+        down: true,
+        code: 38,
+        state: 1,
+    });
+    run.grant(GIn::Close { window: 9 });
+    run.grant(GIn::ClipGive { window: 1 });
+    run.grant(GIn::Close { window: 1 });
+    assert!(rt; run.said(2, &KEY));
+    assert!(rt; run.said(3, &PASTED));
+    assert!(rt; run.said(4, &[137, 0, 0, 0, 1, 0, 0, 0, 0, 0, 0, 0]));
+    assert!(rt; run.out.reply_at(5).is_none());
+    Ok(())
+}
+
+#[test]
+fn changes_what_is_granted(rt: HostRuntime) -> Result<(), NoMemory> {
+    let mut run = ready(rt.alloc(), &SEVEN)?;
+    run.send(CREATE, 1, &[2, 2, 3, 1, 0, 0]);
+    run.send(FLAGS, 1, &[6, 0]);
+    let rect = Rect {
+        x: -1,
+        y: 5,
+        w: 3,
+        h: 2,
+    };
+    run.grant(GIn::Place { window: 1, rect });
+    run.grant(GIn::Restored { window: 1 });
+    assert!(rt; run.said(2, &PLACED));
+    assert!(rt; run.out.reply_at(3).is_none());
+    match run.session.pane(1) {
+        Some(pane) => assert!(rt; pane.place == rect && pane.flags == 2),
+        None => assert!(rt; false),
+    }
     Ok(())
 }
