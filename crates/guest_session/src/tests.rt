@@ -39,13 +39,13 @@ fn guests_of(alloc: Global) -> Result<Guests, NoMemory> {
     Ok(guests)
 }
 
-fn setup_of(alloc: Global) -> Result<Setup, NoMemory> {
+fn setup_of(alloc: Global, pages: u32) -> Result<Setup, NoMemory> {
     let guests = guests_of(alloc)?;
     Ok(Setup {
         width: 8,
         height: 6,
         border: 1,
-        pages: 4,
+        pages,
         tiles: 4096,
         percent: 90,
         background: Colour(0),
@@ -63,9 +63,14 @@ struct Run {
     ghost pages: { port.pages ≡ session.sizes.pages },
 }
 
-// The session of a guest, which sent this version word.
+// The session of a guest with four pages, which sent this version word.
 fn ready(alloc: Global, word: &[u8; 4]) -> Result<Run, NoMemory> {
-    let setup = setup_of(alloc)?;
+    ready_with(alloc, 4, word)
+}
+
+// The same with so many pages.
+fn ready_with(alloc: Global, pages: u32, word: &[u8; 4]) -> Result<Run, NoMemory> {
+    let setup = setup_of(alloc, pages)?;
     if setup.first_broken().is_some() {
         return Err(NoMemory);
     }
@@ -338,5 +343,68 @@ fn changes_what_is_granted(rt: HostRuntime) -> Result<(), NoMemory> {
         Some(pane) => assert!(rt; pane.place == rect && pane.flags == 2),
         None => assert!(rt; false),
     }
+    Ok(())
+}
+
+// Makes a window of the greatest size, with a dump of eight pages.
+fn make_greatest(run: &mut Run, window: u32) {
+    run.send(CREATE, window, &[0, 0, 16384, 6144, 0, 0]);
+    run.send(DUMP, window, &[0, 1024, 8, 32, 0, 1, 2, 3, 4, 5, 6, 7]);
+}
+
+// Reports a pixel of a window, whose word is read as this.
+fn report_pixel(run: &mut Run, window: u32, x: u32, word: u32) -> Result<(), NoMemory> {
+    run.add(word)?;
+    run.send(SHMIMAGE, window, &[x, 7, 1, 1]);
+    Ok(())
+}
+
+// Reports the pixels of a window in columns 0, 64, 128 and 192 of row 7, each in a tile of its own.
+fn report_four(run: &mut Run, window: u32) -> Result<(), NoMemory>
+    requires { window ≤ 1024 }
+{
+    for column in 0..4 {
+        report_pixel(run, window, 64 * column, 4 * window + column)?;
+    }
+    Ok(())
+}
+
+// A session with 1024 windows of the greatest size, which take all references and all tiles.
+fn filled(alloc: Global) -> Result<Run, NoMemory> {
+    let mut run = ready_with(alloc, 8192, &SEVEN)?;
+    for window in 1..1025 {
+        make_greatest(&mut run, window);
+        report_four(&mut run, window)?;
+    }
+    Ok(run)
+}
+
+// Whether the pixels of a window in these columns are as they were read, and others have nothing.
+fn shows_four(run: &Run, window: u32) -> bool
+    requires { window ≤ 1024 }
+{
+    let mut row = [0; 194];
+    run.session.content_row(window, 0, 7, Colour(9), &mut row);
+    let word = 4 * window;
+    row[0] == word
+        && row[64] == word + 1
+        && row[128] == word + 2
+        && row[192] == word + 3
+        && row[193] == 9
+}
+
+#[test]
+fn opens_with_memory_for_all(rt: HostRuntime) -> Result<(), NoMemory> {
+    let mut run = filled(rt.alloc())?;
+    assert!(rt; run.session.ended().is_none());
+    assert_eq!(rt; (run.session.count(), run.left()), (1024, 0));
+    for window in 1..1025 {
+        assert!(rt; shows_four(&run, window));
+    }
+    report_pixel(&mut run, 1, 256, 0)?;
+    assert_eq!(rt;
+        run.session.ended(),
+        Some(Cause::PixelBudget { a: 1, b: 0 })
+    );
     Ok(())
 }
