@@ -71,6 +71,21 @@ slot-here window low (key ∷ keys) (suc i) rising place =
     not-here window key keys (first-below window low key keys i rising place)
     ∙ slot-here window (suc key.window) keys i rising.1 (place-tail window key keys i place)
 
+-- what is found at any place is what is found
+pub slot-near : (window slot low : ℕ) (keys : List Key) (i : ℕ) → RiseFrom low keys → first_slot window (drop i keys) ≡ Some slot →
+    (low ≤ window) × (slot_in window keys ≡ Some slot)
+slot-near window slot low [] zero rising found = absurd cc
+slot-near window slot low [] (suc i) rising found = absurd cc
+slot-near window slot low (key ∷ keys) zero rising found = by (eqb key.window window) refl found
+  where
+    by : (b : Bool) → eqb key.window window ≡ b → cond b (Some key.slot) None ≡ Some slot →
+        (low ≤ window) × (cond b (Some key.slot) (slot_in window keys) ≡ Some slot)
+    by true is found = let same : key.window ≡ window = eqb-true key.window window is in (omega (arith, same, rising.0), found)
+    by false is found = absurd cc
+slot-near window slot low (key ∷ keys) (suc i) rising found =
+    let rest = slot-near window slot (suc key.window) keys i rising.1 found in
+    (omega (arith, rest.0, rising.0), not-here window key keys (omega (arith, rest.0)) ∙ rest.1)
+
 -- where a window has no key, the first key is of another
 other-first : (window : ℕ) (key : Key) (keys : List Key) → slot_in window (key ∷ keys) ≡ None →
     (eqb key.window window ≡ false) × (slot_in window keys ≡ None)

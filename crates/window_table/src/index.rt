@@ -1,7 +1,13 @@
-// The windows of a table in the order of their ids: one is found by halving.
+// The windows of a table in the order of their ids: one is found by halving, and mostly at once, where it stood
+// when a window came or went last.
 ghost use Rattle.std.specs.Prelude.{◌≡◌, ℕ, ◌+◌, ◌<◌, ◌≤◌, ◌==◌, true, length, drop, is_some, Some, None, vec_len, vec_capacity, if◌then◌else◌};
 ghost use Rattle.std.specs.List.{insert, remove};
+ghost use Rattle.desk_laws.specs.declared.limits.TheConstants.{MAX_WINDOWS};
+ghost use Rattle.window_table.specs.declared.index.TheConstants.{NOTES};
 ghost use Rattle.window_table.specs.Keys.{IsPlaceFor, RiseFrom, first_slot, slot_in};
+
+// How many places are noted: four times as many as there can be windows, so that few share one.
+pub(crate) const NOTES: u32 = 4096;
 
 // A window's id, and its slot.
 #[derive(Clone, Copy)]
@@ -39,11 +45,50 @@ fn slot_at(keys: &[Key], i: usize, window: u32) -> Option<u32>
 }
 
 // The slot of a window, if it has a key.
-pub(crate) fn slot_in(keys: &[Key], window: u32) -> Option<u32>
+fn slot_by_halving(keys: &[Key], window: u32) -> Option<u32>
     requires { RiseFrom 0 keys.now }
     ensures { result ≡ slot_in window keys.now }
 {
     slot_at(keys, place_for(keys, window), window)
+}
+
+// The same, where the key at the place `near` is looked at first.
+fn slot_near(keys: &[Key], near: usize, window: u32) -> Option<u32>
+    requires { RiseFrom 0 keys.now }
+    ensures { result ≡ slot_in window keys.now }
+{
+    match slot_at(keys, near, window) {
+        Some(slot) => Some(slot),
+        None => slot_by_halving(keys, window),
+    }
+}
+
+// Which note is a window's: the upper 12 bits of a product that spreads ids which lie close together.
+fn note_of(window: u32) -> usize
+    ensures { result < NOTES }
+{
+    (window.wrapping_mul(0x9e37_79b1) / 0x10_0000) as usize
+}
+
+// The same, where the place that is noted for the window is looked at first. A note may be of another
+// window, or of none.
+pub(crate) fn slot_in(keys: &[Key], notes: &[u32], window: u32) -> Option<u32>
+    requires rising { RiseFrom 0 keys.now }
+    requires notes { length notes.now ≡ NOTES }
+    ensures { result ≡ slot_in window keys.now }
+{
+    slot_near(keys, notes[note_of(window)] as usize, window)
+}
+
+// Notes where each window's key stands.
+pub(crate) fn note_all(notes: &mut Vec<u32>, keys: &[Key])
+    requires notes { length notes.old.items ≡ NOTES }
+    requires few { length keys.now ≤ MAX_WINDOWS }
+    ensures { length notes.new.items ≡ NOTES }
+{
+    for k in 0..keys.len() {
+        notes[note_of(keys[k].window)] = k as u32;
+    }
 }
 
 // Adds the key of a window that has none.

@@ -7,7 +7,7 @@ ghost use Rattle.window_table.specs.Entries.{Entry, AreApart, entry_at, entry_wi
 ghost use Rattle.window_table.specs.Lending.{LendsPane};
 
 use crate::held::{Held, forget};
-use crate::index::{Key, put_in, slot_in, take_out};
+use crate::index::{Key, NOTES, note_all, put_in, slot_in, take_out};
 use crate::ref_lists::RefLists;
 use crate::{DumpSize, Pane};
 use arrayvec::ArrayVec;
@@ -26,6 +26,7 @@ pub struct Table {
     refs: RefLists,
     order: Vec<u32>,
     keys: Vec<Key>,
+    notes: Vec<u32>,
 }
 
 impl Model for Table {
@@ -34,12 +35,13 @@ impl Model for Table {
     ghost use Rattle.window_table.specs.Entries.{TableView};
     ghost use Rattle.window_table.specs.Kept.{entries_of, IsKept};
     ghost use Rattle.window_table.specs.Keys.{IsIndex};
+    ghost use Rattle.window_table.specs.declared.index.TheConstants.{NOTES};
 
     ghost Value = { TableView };
 
     ghost view = { λ t. record { pages = t.refs.pages; entries = entries_of t.held t.refs.lists t.order.items } };
 
-    ghost invariant = { λ t. IsKept t.held t.refs.lists t.order.items × ((vec_capacity t.order ≡ MAX_WINDOWS) × ((sum_by length t.refs.lists ≤ t.refs.pages) × (IsIndex (entries_of t.held t.refs.lists t.order.items) t.keys.items × (MAX_WINDOWS ≤ vec_capacity t.keys)))) };
+    ghost invariant = { λ t. IsKept t.held t.refs.lists t.order.items × ((vec_capacity t.order ≡ MAX_WINDOWS) × ((sum_by length t.refs.lists ≤ t.refs.pages) × (IsIndex (entries_of t.held t.refs.lists t.order.items) t.keys.items × ((MAX_WINDOWS ≤ vec_capacity t.keys) × (length t.notes.items ≡ NOTES))))) };
 }
 
 impl Table {
@@ -55,11 +57,13 @@ impl Table {
         let refs = RefLists::new(alloc, MAX_WINDOWS as usize, pages)?;
         let order = Vec::with_capacity(alloc, MAX_WINDOWS as usize)?;
         let keys = Vec::with_capacity(alloc, MAX_WINDOWS as usize)?;
+        let notes = vec![in alloc; 0u32; NOTES as usize]?;
         Ok(Table {
             held,
             refs,
             order,
             keys,
+            notes,
         })
     }
 
@@ -80,6 +84,7 @@ impl Table {
         let slot = self.held.insert_reserved(held) as u32;
         self.order.push_reserved(slot);
         put_in(&mut self.keys, window, slot);
+        note_all(&mut self.notes, &self.keys);
         slot
     }
 
@@ -92,7 +97,7 @@ impl Table {
         ensures few { length self.now.entries ≤ MAX_WINDOWS }
         ensures held { (other : ℕ) → effects.refs_besides other (plain_rows self.now.entries) ≤ self.now.pages }
     {
-        slot_in(&self.keys, window)
+        slot_in(&self.keys, &self.notes, window)
     }
 
     /// How many windows there are, at most `MAX_WINDOWS`.
@@ -166,6 +171,7 @@ impl Table {
         self.refs.empty(slot as usize);
         leave(&mut self.order, slot);
         take_out(&mut self.keys, held.window);
+        note_all(&mut self.notes, &self.keys);
         forget(&mut self.held, held.window);
     }
 
@@ -248,7 +254,7 @@ impl Ids for Table {
     }
 
     fn refs_besides(&self, window: u32) -> u32 {
-        match slot_in(&self.keys, window) {
+        match slot_in(&self.keys, &self.notes, window) {
             Some(slot) => self.refs.total() - self.refs.count(slot as usize),
             None => self.refs.total(),
         }

@@ -36,7 +36,7 @@ invariant_of-self c =
                 c.insert_reserved-slot.ensures.was_vacant c.insert_reserved-slot.ensures.updates))
                 (index-added (entries_of t.held t.refs.lists t.order.items) (entry_of c.insert_reserved-slot.result (Some h) [])
                 t.keys.items c.put_in.new.keys.items c.self.invariant.1.1.1.0 unknown c.put_in.ensures.rising c.put_in.ensures.len c.put_in.ensures.slots)),
-            omega (arith, c.put_in.ensures.capacity, c.self.invariant.1.1.1.1),
+            (omega (arith, c.put_in.ensures.capacity, c.self.invariant.1.1.1.1.0), c.note_all.ensures),
           ),
         ),
       ),

@@ -21,7 +21,7 @@ invariant_of-self c =
           (
             subst (λ o. IsIndex (entries_of c.clear.new.self c.clear-2.new.self.lists o) c.clear-4.new.self.items) (sym none)
                 (index-none c.clear-4.new.self.items c.clear-4.ensures.items),
-            omega (arith, c.clear-4.ensures.capacity, c.self.invariant.1.1.1.1),
+            (omega (arith, c.clear-4.ensures.capacity, c.self.invariant.1.1.1.1.0), c.self.invariant.1.1.1.1.1),
           ),
         ),
       ),

@@ -19,7 +19,7 @@ invariant_of-result c =
           (
             subst (λ o. IsIndex (entries_of c.in_ok-held.held c.in_ok-refs.refs.lists o) c.in_ok-keys.keys.items) (sym none)
                 (index-none c.in_ok-keys.keys.items c.in_ok-keys.ensures.items),
-            omega (arith, c.in_ok-keys.ensures.exact),
+            (omega (arith, c.in_ok-keys.ensures.exact), omega (arith, c.in_ok-notes.ensures.len)),
           ),
         ),
       ),

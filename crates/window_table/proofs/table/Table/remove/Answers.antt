@@ -78,7 +78,7 @@ invariant_of-self c =
                 t.keys.items c.take_out.new.keys.items c.self.invariant.1.1.1.0 kept.apart is c.take_out.ensures.rising c.take_out.ensures.len
                 (subst (λ n. (w : ℕ) → slot_in w c.take_out.new.keys.items ≡ (if n == w then None else slot_in w t.keys.items))
                 (sym (ap window_of c.remove-held.ensures.value)) c.take_out.ensures.slots))))),
-            omega (arith, c.take_out.ensures.capacity, c.self.invariant.1.1.1.1),
+            (omega (arith, c.take_out.ensures.capacity, c.self.invariant.1.1.1.1.0), c.note_all.ensures),
           ),
         ),
       ),

@@ -1,4 +1,4 @@
-use Rattle.std.proofs.Common.{◌≡◌, ◌≤◌, ℕ, IfSome, is_some, find, option_map, subst, sym, arith, ap, ◌∙◌}
+use Rattle.std.proofs.Common.{◌≡◌, ◌≤◌, ℕ, IfSome, is_some, length, find, option_map, subst, sym, arith, ap, ◌∙◌}
 use Rattle.desk_laws.specs.Effects.{refs_besides}
 use Rattle.window_table.specs.Entries.{entry_at, entry_with, plain_rows}
 use Rattle.window_table.specs.Kept.{holds}
@@ -8,8 +8,11 @@ use Rattle.window_table.proofs.FindLemmas.{same-entry, known-entry}
 use Rattle.window_table.proofs.RefLemmas.{besides-le}
 use Rattle.window_table.proofs.table.Table.slot_of.Goals as goal
 
-pub slot_in-requires : goal.slot_in-requires
-slot_in-requires c = subst (RiseFrom 0) (sym c.deref.ensures.value) c.self.invariant.1.1.1.0.rising
+pub slot_in-requires-clause-rising : goal.slot_in-requires-clause-rising
+slot_in-requires-clause-rising c = subst (RiseFrom 0) (sym c.deref.ensures.value) c.self.invariant.1.1.1.0.rising
+
+pub slot_in-requires-clause-notes : goal.slot_in-requires-clause-notes
+slot_in-requires-clause-notes c = ap length c.deref-2.ensures.value ∙ c.self.invariant.1.1.1.1.1
 
 pub returns-clause-slot : goal.returns-clause-slot
 returns-clause-slot c =

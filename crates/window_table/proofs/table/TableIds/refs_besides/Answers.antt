@@ -1,4 +1,4 @@
-use Rattle.std.proofs.Common.{◌≡◌, ◌-◌, find, Some, None, sym, subst, arith, ap, ◌∙◌}
+use Rattle.std.proofs.Common.{◌≡◌, ◌-◌, length, find, Some, None, sym, subst, arith, ap, ◌∙◌}
 use Rattle.slab.specs.Slab.{get}
 use Rattle.desk_laws.specs.Effects.{refs_besides}
 use Rattle.window_table.specs.Entries.{plain_rows}
@@ -9,8 +9,11 @@ use Rattle.window_table.proofs.RefLemmas.{besides-known, besides-unknown}
 use Rattle.window_table.proofs.AmongLemmas.{found-is}
 use Rattle.window_table.proofs.table.TableIds.refs_besides.Goals as goal
 
-pub slot_in-requires : goal.slot_in-requires
-slot_in-requires c = subst (RiseFrom 0) (sym c.deref.ensures.value) c.self.invariant.1.1.1.0.rising
+pub slot_in-requires-clause-rising : goal.slot_in-requires-clause-rising
+slot_in-requires-clause-rising c = subst (RiseFrom 0) (sym c.deref.ensures.value) c.self.invariant.1.1.1.0.rising
+
+pub slot_in-requires-clause-notes : goal.slot_in-requires-clause-notes
+slot_in-requires-clause-notes c = ap length c.deref-2.ensures.value ∙ c.self.invariant.1.1.1.1.1
 
 pub count-requires : goal.count-requires
 count-requires c =
