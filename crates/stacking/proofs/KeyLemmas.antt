@@ -6,7 +6,7 @@ use Rattle.desk_laws.specs.declared.row_id.RowId.{RowId}
 use Rattle.desk_laws.specs.Rows.{same_row}
 use Rattle.stacking.specs.declared.index.Key.{Key}
 use Rattle.stacking.specs.Keys.{before, next_id, layer_in, first_layer, RiseFrom, IsPlaceFor}
-use Rattle.stacking.proofs.OrderLemmas.{from-trans, from-next, next-from, below-differs, below-next, at-next, before-next, apart-next, before-differs, below-get, same-through}
+use Rattle.stacking.proofs.OrderLemmas.{from-trans, from-next, next-from, below-differs, below-next, at-next, before-next, apart-next, before-differs, behind-differs, below-get, same-through}
 use Rattle.stacking.proofs.CountLemmas.{same-is, same-swapped}
 
 rise-lower : (low high : RowId) (keys : List Key) → before high low ≡ false → RiseFrom high keys → RiseFrom low keys
@@ -75,6 +75,23 @@ layer-here id low (key ∷ keys) zero rising place =
 layer-here id low (key ∷ keys) (suc i) rising place =
     cond-false (same_row id key.id) (Some key.over) (layer_in id keys) (before-differs key.id id (first-before id low key keys i rising place))
     ∙ layer-here id (next_id key.id) keys i rising.1 (place-tail id key keys i place)
+
+-- what is found at any place is what is found
+pub layer-near : (id : RowId) (over : Bool) (low : RowId) (keys : List Key) (i : ℕ) → RiseFrom low keys → first_layer id (drop i keys) ≡ Some over →
+    (before id low ≡ false) × (layer_in id keys ≡ Some over)
+layer-near id over low [] zero rising found = absurd cc
+layer-near id over low [] (suc i) rising found = absurd cc
+layer-near id over low (key ∷ keys) zero rising found = by (same_row id key.id) refl found
+  where
+    by : (b : Bool) → same_row id key.id ≡ b → cond b (Some key.over) None ≡ Some over →
+        (before id low ≡ false) × (cond b (Some key.over) (layer_in id keys) ≡ Some over)
+    by true is found = (ap (λ (x : RowId). before x low) (same-is id key.id is) ∙ rising.0, found)
+    by false is found = absurd cc
+layer-near id over low (key ∷ keys) (suc i) rising found =
+    let rest = layer-near id over (next_id key.id) keys i rising.1 found in (
+      from-next id key.id low rising.0 rest.0,
+      cond-false (same_row id key.id) (Some key.over) (layer_in id keys) (behind-differs id key.id rest.0) ∙ rest.1,
+    )
 
 -- where a row has no key, the first key is of another
 other-first : (id : RowId) (key : Key) (keys : List Key) → layer_in id (key ∷ keys) ≡ None →

@@ -40,3 +40,6 @@ below-get a b c p q = grind (arith, nat_tests)
 
 pub same-through : (a b c : RowId) → same_row a b ≡ true → same_row c b ≡ same_row c a
 same-through a b c p = grind (arith, nat_tests)
+
+pub behind-differs : (a b : RowId) → before a (next_id b) ≡ false → same_row a b ≡ false
+behind-differs a b p = grind (arith, nat_tests)

@@ -1,10 +1,15 @@
-// The rows of a stacking in the order of their ids: the layer of one is found by halving.
+// The rows of a stacking in the order of their ids: the layer of one is found by halving, and mostly at once, where
+// its key stood when a row came or went last.
 ghost use Rattle.std.specs.Prelude.{◌≡◌, ℕ, ◌+◌, ◌<◌, ◌≤◌, ◌==◌, false, true, not, filter, length, drop, is_some, Some, None, vec_len, vec_capacity, if◌then◌else◌};
 ghost use Rattle.std.specs.List.{insert, remove};
 ghost use Rattle.desk_laws.specs.Rows.{same_row};
+ghost use Rattle.stacking.specs.declared.index.TheConstants.{NOTES};
 ghost use Rattle.stacking.specs.Keys.{IsPlaceFor, RiseFrom, before, first_id, first_layer, layer_in};
 
 use desk_laws::RowId;
+
+// How many places are noted: twice as many as a desktop has rows at most, so that few share one.
+pub(crate) const NOTES: u32 = 32768;
 
 // A row's id, and whether it is in the override layer.
 #[derive(Clone, Copy)]
@@ -49,11 +54,55 @@ fn layer_at(keys: &[Key], i: usize, id: RowId) -> Option<bool>
 }
 
 // Whether a row is in the override layer, `None` where it has no key.
-pub(crate) fn layer_in(keys: &[Key], id: RowId) -> Option<bool>
+fn layer_by_halving(keys: &[Key], id: RowId) -> Option<bool>
     requires { RiseFrom first_id keys.now }
     ensures { result ≡ layer_in id keys.now }
 {
     layer_at(keys, place_for(keys, id), id)
+}
+
+// The same, where the key at the place `near` is looked at first.
+fn layer_near(keys: &[Key], near: usize, id: RowId) -> Option<bool>
+    requires { RiseFrom first_id keys.now }
+    ensures { result ≡ layer_in id keys.now }
+{
+    match layer_at(keys, near, id) {
+        Some(over) => Some(over),
+        None => layer_by_halving(keys, id),
+    }
+}
+
+// Which note is a row's: the upper 15 bits of a sum that spreads ids which lie close together.
+fn note_of(id: RowId) -> usize
+    ensures { result < NOTES }
+{
+    let spread = id
+        .window
+        .wrapping_mul(0x9e37_79b1)
+        .wrapping_add(id.guest.wrapping_mul(0x85eb_ca6b));
+    (spread / 0x2_0000) as usize
+}
+
+// The same, where the place that is noted for the row is looked at first. A note may be of another row,
+// or of none.
+pub(crate) fn layer_in(keys: &[Key], notes: &[u32], id: RowId) -> Option<bool>
+    requires rising { RiseFrom first_id keys.now }
+    requires notes { length notes.now ≡ NOTES }
+    ensures { result ≡ layer_in id keys.now }
+{
+    layer_near(keys, notes[note_of(id)] as usize, id)
+}
+
+// Notes where each row's key stands.
+pub(crate) fn note_all(notes: &mut Vec<u32>, keys: &[Key])
+    requires { length notes.old.items ≡ NOTES }
+    ensures { length notes.new.items ≡ NOTES }
+{
+    let mut place = 0u32;
+    for key in keys {
+        notes[note_of(key.id)] = place;
+        place = place.wrapping_add(1);
+    }
 }
 
 // Adds the key of a row that has none.

@@ -10,7 +10,7 @@ ghost use Rattle.std.specs.Prelude.{◌≡◌, ◌+◌, ◌<◌, ◌≤◌, ◌�
 ghost use Rattle.desk_laws.specs.Layers.{HaveRowsOnce, no_layers, is_in, without, to_end, entered, departed, raised, relayered, id_from_top};
 ghost use Rattle.desk_laws.specs.Following.{without_guest};
 
-use crate::index::{Key, layer_in, put_key, take_guest_keys, take_key};
+use crate::index::{Key, NOTES, layer_in, note_all, put_key, take_guest_keys, take_key};
 use desk_laws::RowId;
 use gui_num::NoMemory;
 use std::alloc::Global;
@@ -27,19 +27,21 @@ pub struct Stacking {
     over: Vec<RowId>,
     focus: Vec<RowId>,
     keys: Vec<Key>,
+    notes: Vec<u32>,
 }
 
 impl Model for Stacking {
-    ghost use Rattle.std.specs.Prelude.{◌≤◌, vec_capacity};
+    ghost use Rattle.std.specs.Prelude.{◌≡◌, ◌≤◌, length, vec_capacity};
     ghost use Rattle.stacking.specs.RowCounts.{AreCounted};
     ghost use Rattle.stacking.specs.Keys.{IsIndex};
+    ghost use Rattle.stacking.specs.declared.index.TheConstants.{NOTES};
     ghost use Rattle.stacking.specs.Stacked.{Stacked};
 
     ghost Value = { Stacked };
 
     ghost view = { λ s. record { layers = record { normal = s.normal.items; over = s.over.items; focus = s.focus.items }; rows = vec_capacity s.focus } };
 
-    ghost invariant = { λ s. AreCounted s.normal.items s.over.items s.focus.items × (vec_capacity s.focus ≤ vec_capacity s.normal) × (vec_capacity s.focus ≤ vec_capacity s.over) × IsIndex s.normal.items s.over.items s.keys.items × (vec_capacity s.focus ≤ vec_capacity s.keys) };
+    ghost invariant = { λ s. AreCounted s.normal.items s.over.items s.focus.items × (vec_capacity s.focus ≤ vec_capacity s.normal) × (vec_capacity s.focus ≤ vec_capacity s.over) × IsIndex s.normal.items s.over.items s.keys.items × (vec_capacity s.focus ≤ vec_capacity s.keys) × (length s.notes.items ≡ NOTES) };
 }
 
 impl Stacking {
@@ -53,6 +55,7 @@ impl Stacking {
             over: Vec::with_capacity(alloc, rows)?,
             focus: Vec::with_capacity(alloc, rows)?,
             keys: Vec::with_capacity(alloc, rows)?,
+            notes: vec![in alloc; 0u32; NOTES as usize]?,
         })
     }
 
@@ -64,6 +67,7 @@ impl Stacking {
     {
         put_first(&mut self.focus, id);
         put_key(&mut self.keys, id, over);
+        note_all(&mut self.notes, &self.keys);
         if over {
             self.over.push_reserved(id);
         } else {
@@ -85,7 +89,7 @@ impl Stacking {
         ensures is { result ≡ is_in self.now.layers.focus id }
         ensures none { result ≡ false → departed id self.now.layers ≡ self.now.layers }
     {
-        layer_in(&self.keys, id).is_some()
+        layer_in(&self.keys, &self.notes, id).is_some()
     }
 
     // Takes out a row that is there.
@@ -97,6 +101,7 @@ impl Stacking {
         take_out(&mut self.over, id);
         take_out(&mut self.focus, id);
         take_key(&mut self.keys, id);
+        note_all(&mut self.notes, &self.keys);
     }
 
     /// Takes out all rows of a guest, counted from 0.
@@ -107,6 +112,7 @@ impl Stacking {
         take_guest_out(&mut self.over, guest);
         take_guest_out(&mut self.focus, guest);
         take_guest_keys(&mut self.keys, guest);
+        note_all(&mut self.notes, &self.keys);
     }
 
     /// Puts a row on top of its layer and at the end of the focus list.
@@ -134,7 +140,7 @@ impl Stacking {
     fn is_in_layer(&self, id: RowId, over: bool) -> bool
         ensures { result ≡ (if over then is_in self.now.layers.over id else is_in self.now.layers.normal id) }
     {
-        layer_in(&self.keys, id) == Some(over)
+        layer_in(&self.keys, &self.notes, id) == Some(over)
     }
 
     // Puts a row on top of the override layer (`over`) or of the normal one, in which it isn't yet.

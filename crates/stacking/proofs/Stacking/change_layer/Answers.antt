@@ -38,6 +38,7 @@ invariant_of-self c =
           (index-moved _ _ _ _ _ _ c.args.id c.args.over c.self.invariant.0 c.self.invariant.3 c.take_key.ensures.rising c.put_key.ensures.rising
           c.take_key.ensures.layers c.put_key.ensures.layers c.if-over.true out),
       omega arith,
+      c.self.invariant.5,
     )
 
 pub move_row-requires-else-over : goal.move_row-requires-else-over
@@ -69,4 +70,5 @@ invariant_of-self-else-over c =
           (index-moved-normal _ _ _ _ _ _ c.args.id c.args.over c.self.invariant.0 c.self.invariant.3 c.take_key.ensures.rising c.put_key.ensures.rising
           c.take_key.ensures.layers c.put_key.ensures.layers c.if-over.false out),
       omega arith,
+      c.self.invariant.5,
     )

@@ -13,4 +13,5 @@ invariant_of-self c =
       omega arith,
       index-same _ _ _ _ _ c.move_to_end.ensures.items c.move_to_end-2.ensures.items (index-raised _ _ _ _ c.args.id c.self.invariant.0 c.self.invariant.3),
       omega arith,
+      c.self.invariant.5,
     )

@@ -1,12 +1,15 @@
-use Rattle.std.proofs.Common.{◌≡◌, ap, is_some, subst, sym, ◌∙◌}
+use Rattle.std.proofs.Common.{◌≡◌, ap, is_some, length, subst, sym, ◌∙◌}
 use Rattle.desk_laws.specs.Layers.{departed, is_in}
 use Rattle.stacking.specs.Stacked.{Stacked}
 use Rattle.stacking.specs.Keys.{RiseFrom, first_id, layer_in}
 use Rattle.stacking.proofs.IndexLemmas.{departed-none, some-focus}
 use Rattle.stacking.proofs.Stacking.holds.Goals as goal
 
-pub layer_in-requires : goal.layer_in-requires
-layer_in-requires c = subst (RiseFrom first_id) (sym c.deref.ensures.value) c.self.invariant.3.rising
+pub layer_in-requires-clause-rising : goal.layer_in-requires-clause-rising
+layer_in-requires-clause-rising c = subst (RiseFrom first_id) (sym c.deref.ensures.value) c.self.invariant.3.rising
+
+pub layer_in-requires-clause-notes : goal.layer_in-requires-clause-notes
+layer_in-requires-clause-notes c = ap length c.deref-2.ensures.value ∙ c.self.invariant.5
 
 pub returns-clause-is : goal.returns-clause-is
 returns-clause-is c =

@@ -1,4 +1,4 @@
-use Rattle.std.proofs.Common.{ap, subst, sym, Some, ◌∙◌}
+use Rattle.std.proofs.Common.{ap, length, subst, sym, Some, ◌∙◌}
 use Rattle.std.specs.Prelude.{if◌then◌else◌}
 use Rattle.std.specs.Option.{option_eq}
 use Rattle.std.specs.Bool.{beq}
@@ -7,8 +7,11 @@ use Rattle.stacking.proofs.IndexLemmas.{is-layer, only-one}
 use Rattle.stacking.specs.Keys.{RiseFrom, first_id, layer_in}
 use Rattle.stacking.proofs.Stacking.is_in_layer.Goals as goal
 
-pub layer_in-requires : goal.layer_in-requires
-layer_in-requires c = subst (RiseFrom first_id) (sym c.deref.ensures.value) c.self.invariant.3.rising
+pub layer_in-requires-clause-rising : goal.layer_in-requires-clause-rising
+layer_in-requires-clause-rising c = subst (RiseFrom first_id) (sym c.deref.ensures.value) c.self.invariant.3.rising
+
+pub layer_in-requires-clause-notes : goal.layer_in-requires-clause-notes
+layer_in-requires-clause-notes c = ap length c.deref-2.ensures.value ∙ c.self.invariant.5
 
 pub returns : goal.returns
 returns c =
