@@ -1,7 +1,7 @@
 -- What words stand for, as they are written and cut.
-use Rattle.std.proofs.Common.{◌≡◌, ℕ, zero, suc, ◌+◌, ◌<◌, ◌≤◌, Bool, true, false, cond, ◌||◌, ltb, List, [], ◌∷◌, ◌++◌, length, take, drop, set, get_or, replicate, Option, Some, None, is_some, refl, sym, ap, ◌∙◌, arith}
+use Rattle.std.proofs.Common.{◌≡◌, ℕ, zero, suc, ◌+◌, ◌/◌, ◌%◌, ◌<◌, ◌≤◌, Bool, true, false, cond, ◌||◌, ltb, List, [], ◌∷◌, ◌++◌, length, take, drop, set, get_or, replicate, Option, Some, None, is_some, refl, sym, ap, ◌∙◌, arith}
 use Rattle.std.specs.List.{list_any}
-use Rattle.std.proofs.lemmas.Bool.{lt-ltb}
+use Rattle.std.proofs.lemmas.Bool.{and_from, lt-ltb}
 use Rattle.std.proofs.lemmas.List.{length-set}
 use Rattle.tile_store.specs.Squares.{shown, all_shown, blanks, has_pixel, coloured_from, is_inside, cut_from, cut_word, cut_words, is_colour}
 
@@ -89,3 +89,11 @@ shown-row (suc k) colours (word ∷ words) fits few =
 pub length-coloured : (k : ℕ) (colours : List ℕ) (pixels : List (Option ℕ)) → length (coloured_from k colours pixels) ≡ length pixels
 length-coloured k [] pixels = refl
 length-coloured k (colour ∷ colours) pixels = length-coloured (suc k) colours (set pixels k (Some colour)) ∙ length-set pixels k (Some colour)
+
+-- pixels that all lie inside are left as they are
+pub cut-inside : (k w h : ℕ) (pixels : List (Option ℕ)) → 64 ≤ w → 64 ≤ h → k + length pixels ≤ 4096 → pixels ≡ cut_from k w h pixels
+cut-inside k w h [] wide high fits = refl
+cut-inside k w h (pixel ∷ pixels) wide high fits =
+    let here : is_inside w h k ≡ true = and_from (ltb (k % 64) w) (ltb (k / 64) h) (lt-ltb (k % 64) w (omega (arith, wide))) (lt-ltb (k / 64) h (omega (arith, high, fits))) in
+    ap (λ rest. pixel ∷ rest) (cut-inside (suc k) w h pixels wide high (omega (arith, fits)))
+    ∙ sym (ap (λ b. cond b pixel None ∷ cut_from (suc k) w h pixels) here)

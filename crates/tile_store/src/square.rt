@@ -98,7 +98,10 @@ impl Square {
     pub(crate) fn cut(&mut self, w: u32, h: u32)
         ensures { self.new ≡ cut_from 0 w h self.old }
     {
-        cut_all(&mut self.words, w, h);
+        // A tile that lies inside is left as it is.
+        if w < TILE_SIDE || h < TILE_SIDE {
+            cut_all(&mut self.words, w, h);
+        }
     }
 
     // Whether some pixel has a colour.
