@@ -25,6 +25,10 @@ put-at : (xs ys : List ℕ) (a e k : ℕ) → a ≤ e → e ≤ length xs → le
     → get_or (put_mid a (e - a) xs ys) k 0 ≡ (if in_columns a e k then get_or ys (k - a) 0 else get_or xs k 0)
 put-at xs ys a e k order inside long below = grind (arith, nat_tests, places)
 
+-- what stands in a part that was written
+pub put-in : (xs ys : List ℕ) (a e k : ℕ) → a ≤ k → k < e → e ≤ length xs → length ys ≡ e - a → get_or (put_mid a (e - a) xs ys) k 0 ≡ get_or ys (k - a) 0
+put-in xs ys a e k low high inside long = grind (arith, places)
+
 -- after a part of a row got the values of a function
 pub drawn-at : (f : ℕ → ℕ) (xs ys : List ℕ) (a e k : ℕ) → a ≤ e → e ≤ length xs → length ys ≡ e - a → k < length xs
     → ((i : ℕ) → i < e - a → get_or ys i 0 ≡ f i)

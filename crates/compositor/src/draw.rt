@@ -1,8 +1,8 @@
 // How the panes are drawn onto one row of a picture, from the topmost one down, each pixel once.
-ghost use Rattle.std.specs.Prelude.{◌≡◌, ◌<◌, ◌≤◌, ◌+◌, ◌-◌, ◌++◌, ℕ, List, All, ◌&&◌, not, length, drop, slice_get, slice_index, Some, true, pos, ◌-ℤ◌, ◌≤ℤ◌, if◌then◌else◌};
+ghost use Rattle.std.specs.Prelude.{◌≡◌, ◌<◌, ◌≤◌, ◌+◌, ◌-◌, ◌*◌, ◌++◌, ◌∷◌, [], ℕ, List, All, ◌&&◌, not, false, IsTrue, length, drop, slice_get, slice_index, Some, true, pos, ◌-ℤ◌, ◌≤ℤ◌, if◌then◌else◌};
 ghost use Rattle.gui_num.specs.Rects.{IsFit, nat_of, has, on_side, right};
 ghost use Rattle.region_clip.specs.Spans.{in_columns, in_spans, AreApart};
-ghost use Rattle.compositor.specs.Bands.{numbered};
+ghost use Rattle.compositor.specs.Bands.{numbered, AreAsWide, spans_at, will_show};
 ghost use Rattle.compositor.specs.Composed.{Pane, views_of, colour_or, content_under, pane_colour, composed, at_pixel};
 
 use crate::panes::{PaneView, Panes};
@@ -195,65 +195,177 @@ fn paint_pane<Q: Panes>(row: &mut [u32], spans: &mut RowSpans, panes: &Q, k: usi
     }
 }
 
+// Draws the k-th pane where nothing is drawn yet in the row y, which begins at a place of the pixels.
+fn paint_pane_at<Q: Panes>(
+    pixels: &mut [u32],
+    start: usize,
+    spans: &mut RowSpans,
+    panes: &Q,
+    k: usize,
+    y: u32,
+    width: u32,
+)
+    requires width { spans.old.width ≡ width }
+    requires small { width ≤ 8192 }
+    requires row { y < 8192 }
+    requires inside { start + width ≤ length pixels.old }
+    requires pane { k < length (Q.panes panes.now) }
+    ensures width { spans.new.width ≡ width }
+    ensures left { (pane : Pane) → slice_get (Q.panes panes.now) k ≡ Some pane → (x : ℕ) → in_spans spans.new.spans x ≡ (in_spans spans.old.spans x && not (has pane.view.outer (at_pixel x y))) }
+    ensures here { (pane : Pane) → slice_get (Q.panes panes.now) k ≡ Some pane → (x : ℕ) → x < width → slice_index pixels.new (start + x) ≡ (if in_spans spans.old.spans x && has pane.view.outer (at_pixel x y) then pane_colour pane (at_pixel x y) else slice_index pixels.old (start + x)) }
+    ensures before { (i : ℕ) → i < start → slice_index pixels.new i ≡ slice_index pixels.old i }
+    ensures behind { (i : ℕ) → start + width ≤ i → slice_index pixels.new i ≡ slice_index pixels.old i }
+{
+    let end = start + width as usize;
+    paint_pane(&mut pixels[start..end], spans, panes, k, y);
+}
+
+// Draws the k-th pane where nothing is drawn yet in the rows of a band, from its first one down.
+fn paint_down<Q: Panes>(
+    pixels: &mut [u32],
+    rows: &mut [RowSpans],
+    panes: &Q,
+    k: usize,
+    top: u32,
+    width: u32,
+)
+    requires pane { k < length (Q.panes panes.now) }
+    requires small { width ≤ 8192 }
+    requires low { top + length rows.old ≤ 8192 }
+    requires size { length pixels.old ≡ length rows.old * width }
+    requires widths { AreAsWide width rows.old }
+    ensures widths { AreAsWide width rows.new }
+    ensures shown { (pane : Pane) → slice_get (Q.panes panes.now) k ≡ Some pane → (background : ℕ) (below : List Pane) (j x : ℕ) → j < length rows.old → x < width → will_show background below top width (record { rows = rows.new; pixels = pixels.new }) j x ≡ will_show background (pane ∷ below) top width (record { rows = rows.old; pixels = pixels.old }) j x }
+{
+    for j in 0..rows.len() {
+        let start = j * width as usize;
+        paint_pane_at(pixels, start, &mut rows[j], panes, k, top + j as u32, width);
+    }
+}
+
+// Whether nothing is left to be drawn of some rows.
+fn are_full(rows: &[RowSpans]) -> bool
+    ensures { IsTrue result → (j x : ℕ) → j < length rows.now → in_spans (spans_at rows.now j) x ≡ false }
+{
+    for j in 0..rows.len() {
+        let row = &rows[j];
+        if !row.is_empty() {
+            return false;
+        }
+    }
+    true
+}
+
 // Draws the panes with these numbers where nothing is drawn yet, until all is drawn. What any panes below
 // them would show then is what all of them together would have shown.
 fn paint_listed<Q: Panes>(
-    row: &mut [u32],
-    spans: &mut RowSpans,
+    pixels: &mut [u32],
+    rows: &mut [RowSpans],
     panes: &Q,
     listed: &[usize],
-    y: u32,
+    top: u32,
+    width: u32,
 )
-    requires width { spans.old.width ≡ length row.old }
-    requires small { length row.old ≤ 8192 }
-    requires row { y < 8192 }
     requires numbers { All (λ k. k < length (Q.panes panes.now)) listed.now }
-    ensures width { spans.new.width ≡ spans.old.width }
-    ensures row { (background : ℕ) (below : List Pane) (x : ℕ) → x < length row.old → (if in_spans spans.new.spans x then composed background below (at_pixel x y) else slice_index row.new x) ≡ (if in_spans spans.old.spans x then composed background (numbered (Q.panes panes.now) listed.now ++ below) (at_pixel x y) else slice_index row.old x) }
+    requires small { width ≤ 8192 }
+    requires low { top + length rows.old ≤ 8192 }
+    requires size { length pixels.old ≡ length rows.old * width }
+    requires widths { AreAsWide width rows.old }
+    ensures widths { AreAsWide width rows.new }
+    ensures shown { (background : ℕ) (below : List Pane) (j x : ℕ) → j < length rows.old → x < width → will_show background below top width (record { rows = rows.new; pixels = pixels.new }) j x ≡ will_show background (numbered (Q.panes panes.now) listed.now ++ below) top width (record { rows = rows.old; pixels = pixels.old }) j x }
 {
     for k in listed {
-        if spans.is_empty() {
+        if are_full(rows) {
             return;
         }
-        paint_pane(row, spans, panes, *k, y);
+        paint_down(pixels, rows, panes, *k, top, width);
     }
 }
 
 // Draws the panes from the `first` on where nothing is drawn yet, until all is drawn.
-fn paint_from<Q: Panes>(row: &mut [u32], spans: &mut RowSpans, panes: &Q, first: usize, y: u32)
-    requires width { spans.old.width ≡ length row.old }
-    requires small { length row.old ≤ 8192 }
-    requires row { y < 8192 }
-    ensures width { spans.new.width ≡ spans.old.width }
-    ensures row { (background x : ℕ) → x < length row.old → (if in_spans spans.new.spans x then background else slice_index row.new x) ≡ (if in_spans spans.old.spans x then composed background (drop first (Q.panes panes.now)) (at_pixel x y) else slice_index row.old x) }
+fn paint_from<Q: Panes>(
+    pixels: &mut [u32],
+    rows: &mut [RowSpans],
+    panes: &Q,
+    first: usize,
+    top: u32,
+    width: u32,
+)
+    requires small { width ≤ 8192 }
+    requires low { top + length rows.old ≤ 8192 }
+    requires size { length pixels.old ≡ length rows.old * width }
+    requires widths { AreAsWide width rows.old }
+    ensures widths { AreAsWide width rows.new }
+    ensures shown { (background j x : ℕ) → j < length rows.old → x < width → will_show background [] top width (record { rows = rows.new; pixels = pixels.new }) j x ≡ will_show background (drop first (Q.panes panes.now)) top width (record { rows = rows.old; pixels = pixels.old }) j x }
 {
     for k in first..panes.count() {
-        if spans.is_empty() {
+        if are_full(rows) {
             return;
         }
-        paint_pane(row, spans, panes, k, y);
+        paint_down(pixels, rows, panes, k, top, width);
     }
 }
 
-// Draws the columns of the row y that are left to be drawn, each one once: the panes with these numbers,
-// then those from the one with the number `rest` on, and the background.
-pub(crate) fn paint_row<Q: Panes>(
-    row: &mut [u32],
-    spans: &mut RowSpans,
+// Lets all columns of some rows be drawn.
+fn reset_rows(rows: &mut [RowSpans], width: u32)
+    requires { AreAsWide width rows.old }
+    ensures widths { AreAsWide width rows.new }
+    ensures columns { (j x : ℕ) → j < length rows.old → in_spans (spans_at rows.new j) x ≡ in_columns 0 width x }
+{
+    for j in 0..rows.len() {
+        rows[j].reset(0, width);
+    }
+}
+
+// Gives the columns of a row that are left to be drawn a colour. The row begins at a place of the pixels.
+fn fill_at(pixels: &mut [u32], start: usize, spans: &RowSpans, width: u32, colour: u32)
+    requires width { spans.now.width ≡ width }
+    requires inside { start + width ≤ length pixels.old }
+    ensures here { (x : ℕ) → x < width → slice_index pixels.new (start + x) ≡ (if in_spans spans.now.spans x then colour else slice_index pixels.old (start + x)) }
+    ensures before { (i : ℕ) → i < start → slice_index pixels.new i ≡ slice_index pixels.old i }
+    ensures behind { (i : ℕ) → start + width ≤ i → slice_index pixels.new i ≡ slice_index pixels.old i }
+{
+    let end = start + width as usize;
+    fill_spans(&mut pixels[start..end], spans.spans(), colour);
+}
+
+// Gives the columns of some rows that are left to be drawn a colour.
+fn fill_rows(pixels: &mut [u32], rows: &[RowSpans], width: u32, colour: u32)
+    requires small { width ≤ 8192 }
+    requires few { length rows.now ≤ 8192 }
+    requires size { length pixels.old ≡ length rows.now * width }
+    requires widths { AreAsWide width rows.now }
+    ensures { (j x : ℕ) → j < length rows.now → x < width → slice_index pixels.new (j * width + x) ≡ (if in_spans (spans_at rows.now j) x then colour else slice_index pixels.old (j * width + x)) }
+{
+    for j in 0..rows.len() {
+        let start = j * width as usize;
+        fill_at(pixels, start, &rows[j], width, colour);
+    }
+}
+
+// Draws the rows of a band, from the row `top` of the picture down, pane by pane in all of its rows, so
+// that of each content rows that lie one below the other are read one after the other: the panes with
+// these numbers, then those from the one with the number `rest` on, and the background.
+pub(crate) fn paint_band<Q: Panes>(
+    pixels: &mut [u32],
+    rows: &mut [RowSpans],
     panes: &Q,
     listed: &[usize],
     rest: usize,
-    y: u32,
+    top: u32,
+    width: u32,
     background: u32,
 )
-    requires width { spans.old.width ≡ length row.old }
-    requires small { length row.old ≤ 8192 }
-    requires row { y < 8192 }
     requires numbers { All (λ k. k < length (Q.panes panes.now)) listed.now }
-    ensures width { spans.new.width ≡ spans.old.width }
-    ensures row { (x : ℕ) → x < length row.old → slice_index row.new x ≡ (if in_spans spans.old.spans x then composed background (numbered (Q.panes panes.now) listed.now ++ drop rest (Q.panes panes.now)) (at_pixel x y) else slice_index row.old x) }
+    requires small { width ≤ 8192 }
+    requires low { top + length rows.old ≤ 8192 }
+    requires size { length pixels.old ≡ length rows.old * width }
+    requires widths { AreAsWide width rows.old }
+    ensures widths { AreAsWide width rows.new }
+    ensures pixels { (j x : ℕ) → j < length rows.old → x < width → slice_index pixels.new (j * width + x) ≡ composed background (numbered (Q.panes panes.now) listed.now ++ drop rest (Q.panes panes.now)) (at_pixel x (top + j)) }
 {
-    paint_listed(row, spans, panes, listed, y);
-    paint_from(row, spans, panes, rest, y);
-    fill_spans(row, spans.spans(), background);
+    reset_rows(rows, width);
+    paint_listed(pixels, rows, panes, listed, top, width);
+    paint_from(pixels, rows, panes, rest, top, width);
+    fill_rows(pixels, rows, width, background);
 }

@@ -1,12 +1,12 @@
 // The picture of the desktop: one colour for each pixel.
-ghost use Rattle.std.specs.Prelude.{◌≡◌, ◌<◌, ◌≤◌, ◌+◌, ◌*◌, ◌++◌, ℕ, All, length, map, take, drop, slice_index, vec_len, IfOk, if◌then◌else◌};
+ghost use Rattle.std.specs.Prelude.{◌≡◌, ◌<◌, ◌≤◌, ◌+◌, ◌-◌, ◌*◌, ◌++◌, ℕ, All, length, map, take, drop, slice_index, vec_len, IfOk, if◌then◌else◌};
 ghost use Rattle.region_clip.specs.Spans.{in_spans};
-ghost use Rattle.compositor.specs.Bands.{numbered, ShowSame};
+ghost use Rattle.compositor.specs.Bands.{numbered, AreAsWide, ShowSame};
 ghost use Rattle.compositor.specs.Composed.{composed, at_pixel, all_pixels};
 ghost use Rattle.compositor.specs.PictureView.{counted};
 
 use crate::band::{BAND_ROWS, MOST_LISTED, list_band};
-use crate::draw::paint_row;
+use crate::draw::paint_band;
 use crate::panes::Panes;
 use gui_num::{Colour, NoMemory};
 use region_clip::RowSpans;
@@ -21,7 +21,8 @@ pub struct Picture {
     height: u32,
     background: Colour,
     pixels: Vec<u32>,
-    spans: RowSpans,
+    // What is left to be drawn of each row of a band.
+    rows: Vec<RowSpans>,
     // Which panes the rows that are drawn meet: room for a list that is made anew for each band of rows.
     listed: Vec<usize>,
     painted: u64,
@@ -30,12 +31,13 @@ pub struct Picture {
 impl Model for Picture {
     ghost use Rattle.std.specs.Prelude.{◌≡◌, vec_len};
     ghost use Rattle.compositor.specs.PictureView.{PictureView, HasSides};
+    ghost use Rattle.compositor.specs.Bands.{AreAsWide};
 
     ghost Value = { PictureView };
 
     ghost view = { λ p. record { width = p.width; height = p.height; background = p.background.0; pixels = p.pixels.items; painted = p.painted } };
 
-    ghost invariant = { λ p. HasSides p.width p.height (vec_len p.pixels) × (p.spans.width ≡ p.width) };
+    ghost invariant = { λ p. HasSides p.width p.height (vec_len p.pixels) × AreAsWide p.width p.rows.items × (vec_len p.rows ≡ 16) };
 }
 
 impl Picture {
@@ -53,14 +55,14 @@ impl Picture {
         ensures { IfOk result (λ p. p ≡ record { width = width; height = height; background = background.0; pixels = map (λ _. background.0) (all_pixels width height); painted = 0 }) }
     {
         let pixels = vec![in alloc; background.0; height as usize * width as usize]?;
-        let spans = RowSpans::new(alloc, width)?;
+        let rows = new_rows(alloc, width)?;
         let listed = Vec::with_capacity(alloc, MOST_LISTED)?;
         Ok(Picture {
             width,
             height,
             background,
             pixels,
-            spans,
+            rows,
             listed,
             painted: 0,
         })
@@ -112,7 +114,7 @@ impl Picture {
     {
         paint_rows(
             &mut self.pixels,
-            &mut self.spans,
+            &mut self.rows,
             &mut self.listed,
             panes,
             self.width,
@@ -125,29 +127,42 @@ impl Picture {
     }
 }
 
+// As many rows of this width as a band has. `NoMemory` where there is none for them.
+fn new_rows(alloc: Global, width: u32) -> Result<Vec<RowSpans>, NoMemory>
+    ensures count { IfOk result (λ rows. vec_len rows ≡ 16) }
+    ensures widths { IfOk result (λ rows. AreAsWide width rows.items) }
+{
+    let mut rows = Vec::with_capacity(alloc, BAND_ROWS as usize)?;
+    while rows.len() < BAND_ROWS as usize {
+        rows.push_reserved(RowSpans::new(alloc, width)?);
+    }
+    Ok(rows)
+}
+
 // Draws all rows of a picture, from the top, in bands of rows.
 fn paint_rows<Q: Panes>(
     pixels: &mut [u32],
-    spans: &mut RowSpans,
+    rows: &mut [RowSpans],
     listed: &mut Vec<usize>,
     panes: &Q,
     width: u32,
     height: u32,
     background: u32,
 )
-    requires width { spans.old.width ≡ width }
     requires small { width ≤ 8192 }
     requires low { height ≤ 8192 }
     requires size { length pixels.old ≡ height * width }
-    ensures width { spans.new.width ≡ width }
+    requires band { length rows.old ≡ 16 }
+    requires widths { AreAsWide width rows.old }
+    ensures widths { AreAsWide width rows.new }
     ensures pixels { pixels.new ≡ map (composed background (Q.panes panes.now)) (all_pixels width height) }
 {
     let mut top = 0;
     while top < height {
         let bottom = height.min(top + BAND_ROWS);
         let rest = list_band(listed, panes, top, bottom);
-        paint_band(
-            pixels, spans, panes, listed, rest, top, bottom, width, background,
+        paint_at(
+            pixels, rows, panes, listed, rest, top, bottom, width, background,
         );
         top = bottom;
     }
@@ -155,9 +170,9 @@ fn paint_rows<Q: Panes>(
 
 // Draws the rows from `top` on and before `bottom`, in which the panes with these numbers and those from
 // the one with the number `rest` on show what all show.
-fn paint_band<Q: Panes>(
+fn paint_at<Q: Panes>(
     pixels: &mut [u32],
-    spans: &mut RowSpans,
+    rows: &mut [RowSpans],
     panes: &Q,
     listed: &[usize],
     rest: usize,
@@ -166,56 +181,29 @@ fn paint_band<Q: Panes>(
     width: u32,
     background: u32,
 )
-    requires width { spans.old.width ≡ width }
     requires small { width ≤ 8192 }
     requires order { top ≤ bottom }
     requires low { bottom ≤ 8192 }
     requires inside { bottom * width ≤ length pixels.old }
+    requires band { bottom - top ≤ length rows.old }
+    requires widths { AreAsWide width rows.old }
     requires numbers { All (λ k. k < length (Q.panes panes.now)) listed.now }
     requires same { ShowSame top bottom (numbered (Q.panes panes.now) listed.now ++ drop rest (Q.panes panes.now)) (Q.panes panes.now) }
-    ensures width { spans.new.width ≡ width }
+    ensures widths { AreAsWide width rows.new }
     ensures here { (x y : ℕ) → x < width → top ≤ y → y < bottom → slice_index pixels.new (y * width + x) ≡ composed background (Q.panes panes.now) (at_pixel x y) }
     ensures before { (i : ℕ) → i < top * width → slice_index pixels.new i ≡ slice_index pixels.old i }
 {
-    for y in top..bottom {
-        let start = y as usize * width as usize;
-        paint_at(
-            pixels, start, spans, panes, listed, rest, y, width, background,
-        );
-    }
-}
-
-// Draws the row y, which begins at a place of the picture.
-fn paint_at<Q: Panes>(
-    pixels: &mut [u32],
-    start: usize,
-    spans: &mut RowSpans,
-    panes: &Q,
-    listed: &[usize],
-    rest: usize,
-    y: u32,
-    width: u32,
-    background: u32,
-)
-    requires width { spans.old.width ≡ width }
-    requires small { width ≤ 8192 }
-    requires row { y < 8192 }
-    requires inside { start + width ≤ length pixels.old }
-    requires numbers { All (λ k. k < length (Q.panes panes.now)) listed.now }
-    ensures width { spans.new.width ≡ width }
-    ensures here { (x : ℕ) → x < width → slice_index pixels.new (start + x) ≡ composed background (numbered (Q.panes panes.now) listed.now ++ drop rest (Q.panes panes.now)) (at_pixel x y) }
-    ensures before { (i : ℕ) → i < start → slice_index pixels.new i ≡ slice_index pixels.old i }
-    ensures behind { (i : ℕ) → start + width ≤ i → slice_index pixels.new i ≡ slice_index pixels.old i }
-{
-    let end = start + width as usize;
-    spans.reset(0, width);
-    paint_row(
+    let start = top as usize * width as usize;
+    let end = bottom as usize * width as usize;
+    let count = (bottom - top) as usize;
+    paint_band(
         &mut pixels[start..end],
-        spans,
+        &mut rows[..count],
         panes,
         listed,
         rest,
-        y,
+        top,
+        width,
         background,
     );
 }

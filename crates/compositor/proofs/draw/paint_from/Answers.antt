@@ -1,8 +1,6 @@
-use Rattle.std.proofs.Common.{◌≡◌, ◌<◌, ◌+◌, length, drop, arith, ap, ◌∙◌, if◌then◌else◌, slice_index, suc}
-use Rattle.gui_num.specs.Rects.{has}
-use Rattle.region_clip.specs.Spans.{in_spans}
-use Rattle.compositor.specs.Composed.{pane_colour, composed, at_pixel}
-use Rattle.compositor.proofs.DrawLemmas.{more, pane_at, composed-more}
+use Rattle.std.proofs.Common.{◌≡◌, ◌<◌, ◌+◌, ◌∷◌, length, drop, arith, ap, sym, ◌∙◌, suc}
+use Rattle.compositor.specs.Bands.{will_show}
+use Rattle.compositor.proofs.DrawLemmas.{pane_at}
 use Rattle.compositor.proofs.draw.paint_from.Goals as goal
 
 pub loop-k-preserved : goal.loop-k-preserved
@@ -13,14 +11,12 @@ loop-k-preserved g c =
     let at = pane_at panes k i in
     let one : suc k ≡ k + 1 = omega arith in
     record {
-      width = omega arith;
-      row = λ background x below.
-          let p = at_pixel x c.args.y in
-          more (in_spans c.loop-k.spans.spans x) (has at.0.view.outer p) (in_spans c.paint_pane.new.spans.spans x)
-          (pane_colour at.0 p) (composed background (drop (k + 1) panes) p)
-          (slice_index c.loop-k.row x) (slice_index c.paint_pane.new.row x) (composed background (drop k panes) p)
-          (c.paint_pane.ensures.left at.0 at.1 x) (c.paint_pane.ensures.row at.0 at.1 x (omega arith))
-          (ap (λ ps. composed background ps p) at.2 ∙ composed-more background at.0 (drop (suc k) panes) x c.args.y
-          ∙ ap (λ n. if has at.0.view.outer p then pane_colour at.0 p else composed background (drop n panes) p) one)
-          ∙ c.loop-k.invariant.row background x (omega arith);
+      size = omega (arith, c.paint_down.auto.pixels, c.loop-k.invariant.size);
+      count = omega (arith, c.paint_down.auto.rows, c.loop-k.invariant.count);
+      widths = c.paint_down.ensures.widths;
+      shown = λ background j x down across.
+          c.paint_down.ensures.shown at.0 at.1 background (drop (k + 1) panes) j x (omega (arith, down, c.loop-k.invariant.count)) across
+          ∙ ap (λ ps. will_show background ps c.args.top c.args.width (record { rows = c.loop-k.rows; pixels = c.loop-k.pixels }) j x)
+          (ap (λ n. at.0 ∷ drop n panes) (sym one) ∙ sym at.2)
+          ∙ c.loop-k.invariant.shown background j x down across;
     }
