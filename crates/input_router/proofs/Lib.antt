@@ -1,2 +1,4 @@
 pub mod CodeLemmas
+pub mod SceneLemmas
+pub mod SettleLemmas
 pub mod WalkLemmas

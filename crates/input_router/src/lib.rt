@@ -5,10 +5,13 @@
 //! asks the desktop for the places of its rows (`Places`), and hands on what is for them (`Deliver`).
 #![tactic(auto)]
 
+mod codes;
 mod deliver;
-mod keys;
+mod grab;
 mod places;
+mod pointer;
 mod router;
+mod settle;
 mod walks;
 
 pub use deliver::Deliver;

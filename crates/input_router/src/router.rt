@@ -2,7 +2,7 @@
 ghost use Rattle.std.specs.Prelude.{◌≡◌};
 ghost use Rattle.desk_laws.specs.Scene.{idle_seat};
 
-use crate::keys::Codes;
+use crate::codes::Codes;
 use desk_laws::RowId;
 use gui_num::Point;
 use std::marker::Model;

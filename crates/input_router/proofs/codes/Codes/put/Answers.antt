@@ -2,7 +2,7 @@ use Rattle.std.proofs.Common.{◌≡◌, ◌<◌, sym, ◌∙◌, subst, arith, 
 use Rattle.desk_laws.specs.Events.{is_among}
 use Rattle.input_router.specs.Codes.{AreCodes}
 use Rattle.input_router.proofs.CodeLemmas.{put-codes, has-room}
-use Rattle.input_router.proofs.keys.Codes.put.Goals as goal
+use Rattle.input_router.proofs.codes.Codes.put.Goals as goal
 
 pub push-requires : goal.push-requires
 push-requires c =

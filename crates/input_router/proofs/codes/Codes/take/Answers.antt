@@ -4,7 +4,7 @@ use Rattle.arrayvec.proofs.ArrayVecLemmas.{filter-from_retain}
 use Rattle.desk_laws.specs.Events.{released}
 use Rattle.input_router.specs.Codes.{AreCodes}
 use Rattle.input_router.proofs.CodeLemmas.{take-codes}
-use Rattle.input_router.proofs.keys.Codes.take.Goals as goal
+use Rattle.input_router.proofs.codes.Codes.take.Goals as goal
 
 pub returns : goal.returns
 returns c =
