@@ -67,7 +67,7 @@ module _ (rows : List Row) (test : Row → Bool) (q : RowId → Bool) (same : (i
       at.1 ∙ sym (ap (λ o. or_else o (option_and_then (λ i. row_at i rows) b)) at.1)
 
   -- an id that passes has a row
-  has-row : (id : RowId) → q id ≡ true → (row : Row) × (row_at id rows ≡ Some row)
+  pub has-row : (id : RowId) → q id ≡ true → (row : Row) × (row_at id rows ≡ Some row)
   has-row id is = by_row (row_at id rows) refl (sym (same id) ∙ is)
     where
       by_row : (o : Option Row) → row_at id rows ≡ o → passes test o ≡ true → (row : Row) × (row_at id rows ≡ Some row)
@@ -75,7 +75,7 @@ module _ (rows : List Row) (test : Row → Bool) (q : RowId → Bool) (same : (i
       by_row (Some row) e h = (row, e)
 
   -- the last id passes
-  last-passes : (ids : List RowId) (id : RowId) → last_that q ids ≡ Some id → q id ≡ true
+  pub last-passes : (ids : List RowId) (id : RowId) → last_that q ids ≡ Some id → q id ≡ true
   last-passes [] id e = absurd (cc)
   last-passes (x ∷ ids) id e = by_rest (last_that q ids) (q x) refl (λ h. last-passes ids id h) e
     where
@@ -132,3 +132,11 @@ module _ (border : ℕ) (spots : RowId → Option Spot) (scene : Scene) (shows :
 
   pub focus-id : option_map id_of (focus_of scene.rows scene.layers) ≡ last_wanted Normal spots scene.layers
   focus-id = last-id scene.rows (λ row. is_shown row && not row.over) (λ id. is_wanted Normal (spots id)) normal-same scene.layers.focus
+
+  -- what is topmost has a row
+  pub top-there : (p : Point) (id : RowId) → top_of spots scene.layers p ≡ Some id → (row : Row) × (row_at id scene.rows ≡ Some row)
+  top-there p id found =
+      let test : Row → Bool = λ row. is_shown row && has (outer border row) p in
+      let q : RowId → Bool = λ id. is_under p (spots id) in
+      let ids = scene.layers.normal ++ scene.layers.over in
+      has-row scene.rows test q (under-same p) id (last-passes scene.rows test q (under-same p) ids id (last-reverse q ids ∙ found))

@@ -1,6 +1,9 @@
 pub mod Codes
+pub mod Commanded
 pub mod Deliveries
+pub mod Pointed
 pub mod Presents
+pub mod Routes
 pub mod SeatView
 pub mod Seated
 pub mod Spots

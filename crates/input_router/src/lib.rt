@@ -6,8 +6,10 @@
 #![tactic(auto)]
 
 mod codes;
+mod commands;
 mod deliver;
 mod grab;
+mod keys;
 mod places;
 mod pointer;
 mod router;
@@ -16,4 +18,4 @@ mod walks;
 
 pub use deliver::Deliver;
 pub use places::Places;
-pub use router::Router;
+pub use router::{Routed, Router};

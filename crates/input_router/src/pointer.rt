@@ -1,13 +1,23 @@
-// The pointer, and the row that it is on.
-ghost use Rattle.std.specs.Prelude.{◌≡◌, ◌-ℤ◌, ◌≤ℤ◌, pos, negsuc, IfSome};
+// The pointer: where it is, on which row, and what its moves and buttons are for the rows.
+ghost use Rattle.std.specs.Prelude.{◌≡◌, ℕ, ◌∷◌, [], ◌-ℤ◌, ◌≤ℤ◌, pos, negsuc, true, false, IsTrue, IfSome, Some, None, if◌then◌else◌};
+ghost use Rattle.desk_laws.specs.declared.setup.Setup.{Setup};
+ghost use Rattle.desk_laws.specs.Events.{grabbing, with_pointer, on_desktop, move, press_by, press_owner, press_row, release_by};
+ghost use Rattle.desk_laws.specs.Layers.{is_in, raised, topmost};
+ghost use Rattle.desk_laws.specs.Scene.{Scene};
+ghost use Rattle.input_router.specs.Deliveries.{Leads};
+ghost use Rattle.input_router.specs.Pointed.{motion_in, moves_in, button_in, more_held};
+ghost use Rattle.input_router.specs.Presents.{Presents, Carries};
+ghost use Rattle.input_router.specs.Routes.{Routes};
 ghost use Rattle.input_router.specs.SeatView.{IsPixel};
 ghost use Rattle.input_router.specs.Seated.{from_spot, hover_of};
-ghost use Rattle.input_router.specs.Spots.{IsPlace};
+ghost use Rattle.input_router.specs.Spots.{IsPlace, Shows, has_content, is_over_at};
 
+use crate::deliver::Deliver;
 use crate::places::Places;
 use crate::router::Router;
-use crate::walks::owner_at;
-use desk_laws::RowId;
+use crate::settle::same;
+use crate::walks::{has_content, owner_at, top_at};
+use desk_laws::{GIn, RowId};
 use gui_num::{Point, Rect};
 use stacking::Stacking;
 
@@ -52,7 +62,36 @@ pub(crate) fn inside<Q: Places>(places: &Q, id: RowId, pointer: Option<Point>) -
     }
 }
 
+// Raises a row of the normal layer, and tells whether it did.
+fn raise_normal<Q: Places>(id: RowId, stack: &mut Stacking, places: &Q) -> Option<RowId>
+    requires { IsTrue (is_in stack.old.layers.focus id) }
+    ensures stack { stack.new ≡ record stack.old { layers = (if is_over_at (Q.spots places.now id) then stack.old.layers else raised id stack.old.layers) } }
+    ensures is { result ≡ (if is_over_at (Q.spots places.now id) then None else Some id) }
+{
+    if places.over(id) {
+        return None;
+    }
+    stack.click(id);
+    Some(id)
+}
+
 impl Router {
+    // The pixel that the pointer is at.
+    fn pointer(&self) -> Option<Point>
+        ensures is { result ≡ self.now.pointer }
+        ensures pixel { IfSome result IsPixel }
+    {
+        self.pointer
+    }
+
+    // Puts the pointer at a pixel.
+    fn put_pointer(&mut self, p: Point)
+        requires { IsPixel p }
+        ensures { self.new ≡ with_pointer p self.old }
+    {
+        self.pointer = Some(p);
+    }
+
     // The row that is grabbed, else the one whose content has the pointer.
     pub(crate) fn hover_now<Q: Places>(&self, stack: &Stacking, places: &Q) -> Option<RowId>
         ensures { result ≡ hover_of (Q.spots places.now) stack.now.layers self.now.grab self.now.pointer }
@@ -65,6 +104,174 @@ impl Router {
                     None => None,
                 }
             }
+        }
+    }
+
+    // Tells the row that had the hover before a move of it, where it has it still.
+    fn tell_motion<Q: Places, V: Deliver>(
+        &self,
+        before: Option<RowId>,
+        state: u16,
+        stack: &Stacking,
+        places: &Q,
+        to: &mut V,
+    )
+        ensures { Leads V.delivers to.old (moves_in (Q.spots places.now) self.now.pointer state before (hover_of (Q.spots places.now) stack.now.layers self.now.grab self.now.pointer)) to.new }
+    {
+        let Some(id) = before else {
+            return;
+        };
+        if same(before, self.hover_now(stack, places)) {
+            let at = inside(places, id, self.pointer);
+            let motion = GIn::Motion {
+                window: id.window,
+                x: at.x,
+                y: at.y,
+                state,
+            };
+            to.grant(id, &motion);
+        }
+    }
+
+    // Tells a row that a button was pressed or released.
+    fn tell_button<Q: Places, V: Deliver>(
+        &self,
+        id: RowId,
+        down: bool,
+        button: u8,
+        state: u16,
+        places: &Q,
+        to: &mut V,
+    )
+        ensures { Leads V.delivers to.old (button_in (Q.spots places.now) self.now.pointer id down button state) to.new }
+    {
+        let at = inside(places, id, self.pointer);
+        let event = GIn::Button {
+            window: id.window,
+            down,
+            x: at.x,
+            y: at.y,
+            state,
+            button,
+        };
+        to.grant(id, &event);
+    }
+
+    // The pointer moves to this pixel of the desktop.
+    pub(crate) fn point<Q: Places, V: Deliver>(
+        &mut self,
+        p: Point,
+        state: u16,
+        stack: &Stacking,
+        places: &Q,
+        to: &mut V,
+    )
+        requires { IsPixel p }
+        ensures { (setup : Setup) (scene : Scene) → Presents setup.border (Q.spots places.now) stack.now.layers self.old scene → IsTrue (on_desktop setup p)
+            → Carries V.delivers to.old to.new self.new (move setup p state scene) }
+    {
+        let before = self.hover_now(stack, places);
+        self.put_pointer(p);
+        self.tell_motion(before, state, stack, places, to);
+    }
+
+    // Grabs a row whose content has the pixel, and tells it of the button.
+    fn grab_at<Q: Places, V: Deliver>(
+        &mut self,
+        id: RowId,
+        p: Point,
+        button: u8,
+        state: u16,
+        places: &Q,
+        to: &mut V,
+    )
+        ensures seat { self.new ≡ (if has_content p (Q.spots places.now id) then grabbing id (button ∷ []) self.old else self.old) }
+        ensures leads { Leads V.delivers to.old (if has_content p (Q.spots places.now id) then button_in (Q.spots places.now) self.old.pointer id true button state else []) to.new }
+    {
+        if has_content(places, id, p) {
+            self.tell_button(id, true, button, state, places, to);
+            self.take_grab(id, button);
+        }
+    }
+
+    // A button is pressed at this pixel, and no row is grabbed. Answers the row that was raised.
+    fn press_free<Q: Places, V: Deliver>(
+        &mut self,
+        p: Point,
+        button: u8,
+        state: u16,
+        stack: &mut Stacking,
+        places: &Q,
+        to: &mut V,
+    ) -> Option<RowId>
+        ensures rows { stack.new.rows ≡ stack.old.rows }
+        ensures routes { (setup : Setup) (scene : Scene) → Presents setup.border (Q.spots places.now) stack.old.layers self.old scene
+            → Routes V.delivers to.old to.new self.new stack.old.layers stack.new.layers (record { raised = result; changed = None })
+            (press_owner (topmost setup.border scene.rows scene.layers p) p button state scene) }
+    {
+        match top_at(stack, places, p) {
+            Some(id) => {
+                self.grab_at(id, p, button, state, places, to);
+                raise_normal(id, stack, places)
+            }
+            None => None,
+        }
+    }
+
+    // A button is pressed while a row is grabbed.
+    fn press_grabbed<Q: Places, V: Deliver>(
+        &mut self,
+        id: RowId,
+        button: u8,
+        state: u16,
+        places: &Q,
+        to: &mut V,
+    )
+        ensures seat { self.new ≡ record self.old { grab = more_held button self.old.grab } }
+        ensures leads { Leads V.delivers to.old (button_in (Q.spots places.now) self.old.pointer id true button state) to.new }
+    {
+        self.tell_button(id, true, button, state, places, to);
+        self.hold(button);
+    }
+
+    // A button is pressed. Answers the row that was raised.
+    pub(crate) fn press<Q: Places, V: Deliver>(
+        &mut self,
+        button: u8,
+        state: u16,
+        stack: &mut Stacking,
+        places: &Q,
+        to: &mut V,
+    ) -> Option<RowId>
+        ensures rows { stack.new.rows ≡ stack.old.rows }
+        ensures routes { (setup : Setup) (scene : Scene) → Presents setup.border (Q.spots places.now) stack.old.layers self.old scene
+            → Routes V.delivers to.old to.new self.new stack.old.layers stack.new.layers (record { raised = result; changed = None })
+            (press_by setup scene.seat.pointer scene.seat.grab button state scene) }
+    {
+        let p = self.pointer()?;
+        match self.grabbed() {
+            Some(id) => {
+                self.press_grabbed(id, button, state, places, to);
+                None
+            }
+            None => self.press_free(p, button, state, stack, places, to),
+        }
+    }
+
+    // A button is released, which matters where a grab holds it.
+    pub(crate) fn release<Q: Places, V: Deliver>(
+        &mut self,
+        button: u8,
+        state: u16,
+        places: &Q,
+        to: &mut V,
+    )
+        ensures { (border : ℕ) (scene : Scene) → Shows border (Q.spots places.now) scene → scene.seat ≡ self.old
+            → Carries V.delivers to.old to.new self.new (release_by scene.seat.grab button state scene) }
+    {
+        if let Some(id) = self.holder(button) {
+            self.tell_button(id, false, button, state, places, to);
+            self.let_go(button);
         }
     }
 }

@@ -33,6 +33,14 @@ impl Model for Router {
     ghost invariant = { λ r. IfSome r.pointer IsPixel };
 }
 
+/// What an event did to the stack and to a place: the row that it raised, and the row to which it
+/// granted Place or Restored, each `None` exactly where there is none.
+#[derive(Clone, Copy, Debug, PartialEq, Eq)]
+pub struct Routed {
+    pub raised: Option<RowId>,
+    pub changed: Option<RowId>,
+}
+
 impl Router {
     /// No pointer, no grab, no key, no focus.
     pub fn new() -> Self
