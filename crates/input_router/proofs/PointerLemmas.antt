@@ -6,17 +6,17 @@ use Rattle.gui_num.specs.Rects.{has}
 use Rattle.desk_laws.specs.declared.row_id.RowId.{RowId}
 use Rattle.desk_laws.specs.declared.setup.Setup.{Setup}
 use Rattle.desk_laws.specs.declared.input.GIn.TheVariants.{Motion, Button}
-use Rattle.desk_laws.specs.Sizes.{Sizes, sizes_of}
+use Rattle.desk_laws.specs.Sizes.{sizes_of}
 use Rattle.desk_laws.specs.Rows.{Row, id_of, row_at}
 use Rattle.desk_laws.specs.Layers.{Layers, is_in, raised, topmost}
-use Rattle.desk_laws.specs.Scene.{Scene, Seat, Grab, Delivery, Grants, InputOutcome, with_deliveries, ignored}
-use Rattle.desk_laws.specs.Settle.{same_id, hover_now, pointer_in}
-use Rattle.desk_laws.specs.Events.{on_desktop, with_pointer, motion, moves, move, button, grabbing, layers_pressed, press_row, press_owner, press_by}
+use Rattle.desk_laws.specs.Scene.{Scene, Seat, Delivery, Grants, InputOutcome, with_deliveries, ignored}
+use Rattle.desk_laws.specs.Settle.{same_id, hover_now}
+use Rattle.desk_laws.specs.Events.{on_desktop, with_pointer, motion, moves, move, button, grabbing, layers_pressed, press_owner}
 use Rattle.input_router.specs.Deliveries.{Leads}
-use Rattle.input_router.specs.Pointed.{motion_in, moves_in, button_in, grabbed_in, more_held}
+use Rattle.input_router.specs.Pointed.{motion_in, moves_in, button_in}
 use Rattle.input_router.specs.Presents.{Presents, Carries}
 use Rattle.input_router.specs.Routes.{Raises, changed_by, Routes}
-use Rattle.input_router.specs.Seated.{hover_of, from_spot}
+use Rattle.input_router.specs.Seated.{hover_of}
 use Rattle.input_router.specs.Spots.{Spot, spot_of, Shows, has_content, is_over_at}
 use Rattle.input_router.specs.Walks.{top_of}
 use Rattle.input_router.proofs.SceneLemmas.{row-id, top-row, top-there}

@@ -1,18 +1,21 @@
 -- The rows of a scene that are found by the spots alone.
-use Rattle.std.proofs.Common.{◌≡◌, ℕ, Bool, true, false, ◌&&◌, not, ◌==◌, List, [], ◌∷◌, ◌++◌, reverse, Option, Some, None, refl, sym, ◌∙◌, ap}
-use Rattle.std.specs.Prelude.{filter_map, find, option_map, option_and_then, if◌then◌else◌}
+use Rattle.std.proofs.Common.{◌≡◌, ℕ, Bool, true, false, ◌&&◌, not, ◌==◌, List, [], ◌∷◌, ◌++◌, Option, Some, None, refl, sym, ◌∙◌, ap}
+use Rattle.std.specs.Prelude.{filter_map, find, option_map, option_and_then, IfSome, if◌then◌else◌}
 use Rattle.std.specs.List.{cons_option}
 use Rattle.std.proofs.lemmas.Bool.{and_parts, eqb-true}
 use Rattle.gui_num.specs.declared.Point.{Point}
 use Rattle.gui_num.specs.Rects.{has}
 use Rattle.desk_laws.specs.declared.row_id.RowId.{RowId}
-use Rattle.desk_laws.specs.Rows.{Row, id_of, is_row, row_at, is_shown, outer}
-use Rattle.desk_laws.specs.Layers.{Layers, or_else, last_that, topmost, focus_of}
+use Rattle.desk_laws.specs.Rows.{Row, id_of, is_row, row_at, is_shown, is_hidden, outer}
+use Rattle.desk_laws.specs.Layers.{or_else, last_that, topmost, focus_of}
+use Rattle.desk_laws.specs.Events.{listed}
 use Rattle.desk_laws.specs.Scene.{Scene}
-use Rattle.input_router.specs.declared.walks.Wanted.TheVariants.{Normal}
+use Rattle.input_router.specs.declared.walks.Wanted.TheVariants.{Normal, Hidden}
+use Rattle.input_router.specs.Commanded.{with_place, place_in}
+use Rattle.input_router.specs.Routes.{AreMapped}
 use Rattle.input_router.specs.Spots.{Spot, spot_of, Shows, is_under}
-use Rattle.input_router.specs.Walks.{is_wanted, passing, top_of, last_wanted}
-use Rattle.input_router.proofs.WalkLemmas.{last-reverse}
+use Rattle.input_router.specs.Walks.{is_wanted, top_of, last_wanted, first_wanted}
+use Rattle.input_router.proofs.WalkLemmas.{last-reverse, last-same}
 
 -- whether a row is there and passes
 abbrev pub passes : (Row → Bool) → Option Row → Bool
@@ -103,6 +106,24 @@ module _ (rows : List Row) (test : Row → Bool) (q : RowId → Bool) (same : (i
           let at = there id refl in
           ap (option_map id_of) at.1 ∙ ap Some (row-id id rows at.0 at.1)
 
+  -- the first row that passes has the first id that passes
+  pub first-id : (ids : List RowId) → option_map id_of (find test (filter_map (λ id. row_at id rows) ids)) ≡ find q ids
+  first-id [] = refl
+  first-id (id ∷ ids) = by_row (row_at id rows) refl (first-id ids)
+    where
+      rest : List Row
+      rest = filter_map (λ i. row_at i rows) ids
+
+      by_row : (o : Option Row) → row_at id rows ≡ o → option_map id_of (find test rest) ≡ find q ids
+          → option_map id_of (find test (cons_option o rest)) ≡ (if q id then Some id else find q ids)
+      by_row None e ih = ih ∙ sym (ap (λ b. if b then Some id else find q ids) (same id ∙ ap (passes test) e))
+      by_row (Some row) e ih =
+          by_test (test row) ∙ sym (ap (λ b. if b then Some id else find q ids) (same id ∙ ap (passes test) e))
+        where
+          by_test : (b : Bool) → option_map id_of (if b then Some row else find test rest) ≡ (if b then Some id else find q ids)
+          by_test true = ap Some (row-id id rows row e)
+          by_test false = ih
+
 -- ---- the stack and the focus list of a scene
 
 module _ (border : ℕ) (spots : RowId → Option Spot) (scene : Scene) (shows : Shows border spots scene) where
@@ -140,3 +161,39 @@ module _ (border : ℕ) (spots : RowId → Option Spot) (scene : Scene) (shows :
       let q : RowId → Bool = λ id. is_under p (spots id) in
       let ids = scene.layers.normal ++ scene.layers.over in
       has-row scene.rows test q (under-same p) id (last-passes scene.rows test q (under-same p) ids id (last-reverse q ids ∙ found))
+
+  -- the first row of the focus list that can have the focus
+  pub next-id : option_map id_of (find (λ row. is_shown row && not row.over) (listed scene)) ≡ first_wanted Normal spots scene.layers
+  next-id = first-id scene.rows (λ row. is_shown row && not row.over) (λ id. is_wanted Normal (spots id)) normal-same scene.layers.focus
+
+  -- the last hidden row of the focus list
+  pub hidden-id : AreMapped scene → option_map id_of (last_that is_hidden (listed scene)) ≡ last_wanted Hidden spots scene.layers
+  hidden-id mapped =
+      last-id scene.rows is_hidden (λ id. passes is_hidden (row_at id scene.rows)) (λ id. refl) scene.layers.focus
+      ∙ last-same (λ id. passes is_hidden (row_at id scene.rows)) (λ id. is_wanted Hidden (spots id)) scene.layers.focus (λ id here. hidden-same id (mapped id here))
+    where
+      double : (b : Bool) → b ≡ not (not b)
+      double true = refl
+      double false = refl
+
+      by_row : (o : Option Row) → IfSome o (λ row. row.mapped ≡ true) → passes is_hidden o ≡ is_wanted Hidden (option_map (spot_of border) o)
+      by_row None is = refl
+      by_row (Some row) is = double (is_hidden row) ∙ sym (ap (λ b. not (b && not (is_hidden row))) is)
+
+      hidden-same : (id : RowId) → IfSome (row_at id scene.rows) (λ row. row.mapped ≡ true) → passes is_hidden (row_at id scene.rows) ≡ is_wanted Hidden (spots id)
+      hidden-same id is = by_row (row_at id scene.rows) is ∙ ap (is_wanted Hidden) (sym (shows id))
+
+  -- the row that has the focus, with its place
+  pub focus-place : place_in spots (last_wanted Normal spots scene.layers) ≡ option_map (λ row. (id_of row, row.place)) (focus_of scene.rows scene.layers)
+  focus-place =
+      by_found (last_wanted Normal spots scene.layers) (λ id e. has-row scene.rows (λ row. is_shown row && not row.over) (λ i. is_wanted Normal (spots i)) normal-same id (last-passes scene.rows (λ row. is_shown row && not row.over) (λ i. is_wanted Normal (spots i)) normal-same scene.layers.focus id e))
+      ∙ sym (ap (option_map (λ row. (id_of row, row.place))) focus-row)
+    where
+      by_found : (o : Option RowId) → ((id : RowId) → o ≡ Some id → (row : Row) × (row_at id scene.rows ≡ Some row))
+          → place_in spots o ≡ option_map (λ row. (id_of row, row.place)) (option_and_then (λ id. row_at id scene.rows) o)
+      by_found None there = refl
+      by_found (Some id) there =
+          let at = there id refl in
+          ap (with_place id) (shows id) ∙ ap (λ r. with_place id (option_map (spot_of border) r)) at.1
+          ∙ ap (λ (i : RowId). Some (i, at.0.place)) (sym (row-id id scene.rows at.0 at.1))
+          ∙ sym (ap (option_map (λ row. (id_of row, row.place))) at.1)

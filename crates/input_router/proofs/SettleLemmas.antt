@@ -6,7 +6,7 @@ use Rattle.gui_num.specs.Rects.{has}
 use Rattle.desk_laws.specs.declared.row_id.RowId.{RowId}
 use Rattle.desk_laws.specs.declared.input.GIn.TheVariants.{Crossing}
 use Rattle.desk_laws.specs.Sizes.{Sizes}
-use Rattle.desk_laws.specs.Rows.{Row, id_of, row_at, is_shown}
+use Rattle.desk_laws.specs.Rows.{Row, row_at, is_shown}
 use Rattle.desk_laws.specs.Layers.{Layers, topmost}
 use Rattle.desk_laws.specs.Scene.{Scene, Seat, Grab, Delivery, Grants}
 use Rattle.desk_laws.specs.Settle.{focus_now, hover_now, hover_by, content_owner, grab_shown, grab_checked, from_corner, pointer_in, crossing, same_id, focus_told, hover_told, settled, settled_seat}

@@ -1,5 +1,5 @@
 -- Searches through a list of ids, as far as they have come.
-use Rattle.std.proofs.Common.{◌≡◌, ℕ, zero, suc, ◌+◌, ◌<◌, ◌≤◌, Bool, true, false, ◌||◌, List, [], ◌∷◌, ◌++◌, length, take, drop, reverse, Option, Some, None, refl, sym, ◌∙◌, ap, arith, take_all, length-append}
+use Rattle.std.proofs.Common.{◌≡◌, ℕ, zero, suc, ◌≤◌, Bool, true, false, ◌||◌, List, [], ◌∷◌, ◌++◌, length, take, drop, reverse, Option, Some, None, refl, sym, ◌∙◌, ap, arith, take_all, length-append}
 use Rattle.std.specs.Prelude.{find, slice_get, if◌then◌else◌}
 use Rattle.std.specs.Option.{option_or}
 use Rattle.std.proofs.lemmas.List.{reverse-append, length-reverse}
@@ -7,6 +7,7 @@ use Rattle.std.proofs.lemmas.List.Folds.{list_any-append, find-append}
 use Rattle.desk_laws.specs.declared.row_id.RowId.{RowId}
 use Rattle.desk_laws.specs.Rows.{same_row}
 use Rattle.desk_laws.specs.Layers.{Layers, HaveRowsOnce, is_in, or_else, last_that}
+use Rattle.desk_laws.proofs.IdLemmas.{is_in-first, is_in-further}
 use Rattle.desk_laws.proofs.RowLemmas.{same_row-itself}
 use Rattle.input_router.specs.Walks.{passing}
 
@@ -28,11 +29,15 @@ pub find-miss : (test : RowId → Bool) (xs : List RowId) (k n : ℕ) → n ≡ 
 find-miss test xs k n next so miss =
     ap (λ m. find test (drop m xs)) next ∙ sym (find-step test xs k ∙ ap (λ o. or_else o (find test (drop (suc k) xs))) miss) ∙ so
 
-pub find-end : (test : RowId → Bool) (xs : List RowId) (k : ℕ) → length xs ≤ k → find test (drop k xs) ≡ None
+find-end : (test : RowId → Bool) (xs : List RowId) (k : ℕ) → length xs ≤ k → find test (drop k xs) ≡ None
 find-end test [] zero past = refl
 find-end test [] (suc k) past = refl
 find-end test (x ∷ xs) zero past = absurd (omega arith)
 find-end test (x ∷ xs) (suc k) past = find-end test xs k (omega arith)
+
+-- where nothing is left to be searched, none is found
+pub find-none : (test : RowId → Bool) (xs : List RowId) (k : ℕ) → find test (drop k xs) ≡ find test xs → length xs ≤ k → None ≡ find test xs
+find-none test xs k so past = sym (find-end test xs k past) ∙ so
 
 -- the last one of one more is that one, or one before it
 pub last-step : (test : RowId → Bool) (xs : List RowId) (k : ℕ) → last_that test (take (suc k) xs) ≡ or_else (passing test (slice_get xs k)) (last_that test (take k xs))
@@ -121,6 +126,16 @@ stack-length layers once =
 pub take-whole : {X : Type 0} (xs : List X) (n : ℕ) → n ≡ length xs → take n xs ≡ xs
 take-whole xs n e = take_all n xs (omega arith)
 
-pub last-end : (test : RowId → Bool) (xs : List RowId) (n : ℕ) → n ≤ 0 → last_that test (take n xs) ≡ None
+last-end : (test : RowId → Bool) (xs : List RowId) (n : ℕ) → n ≤ 0 → last_that test (take n xs) ≡ None
 last-end test xs zero none = refl
 last-end test xs (suc n) none = absurd (omega arith)
+
+pub last-none : (test : RowId → Bool) (xs : List RowId) (n : ℕ) → last_that test (take n xs) ≡ last_that test xs → n ≤ 0 → None ≡ last_that test xs
+last-none test xs n so none = sym (last-end test xs n none) ∙ so
+
+-- two tests that agree on the members find the same one
+pub last-same : (p q : RowId → Bool) (xs : List RowId) → ((id : RowId) → is_in xs id ≡ true → p id ≡ q id) → last_that p xs ≡ last_that q xs
+last-same p q [] same = refl
+last-same p q (x ∷ xs) same =
+    ap (λ o. or_else o (if p x then Some x else None)) (last-same p q xs (λ id here. same id (is_in-further x id xs here)))
+    ∙ ap (λ b. or_else (last_that q xs) (if b then Some x else None)) (same x (is_in-first x xs))

@@ -1,5 +1,5 @@
 -- What an event of the user leads to.
-use Rattle.std.specs.Prelude.{◌≡◌, true, Bool, IsTrue, IfSome, List, [], ◌∷◌, Option, Some, None}
+use Rattle.std.specs.Prelude.{◌≡◌, true, IsTrue, IfSome, List, [], ◌∷◌, Option, Some, None}
 use Rattle.desk_laws.specs.declared.row_id.RowId.{RowId}
 use Rattle.desk_laws.specs.declared.setup.Setup.{Setup}
 use Rattle.desk_laws.specs.declared.item.Item.{Item}

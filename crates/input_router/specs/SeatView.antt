@@ -1,5 +1,5 @@
 -- What contracts see of a router.
-use Rattle.std.specs.Prelude.{ℕ, List, Option, option_map, pos, ◌≤ℤ◌, IfSome}
+use Rattle.std.specs.Prelude.{ℕ, List, Option, option_map, pos, ◌≤ℤ◌}
 use Rattle.gui_num.specs.declared.Point.{Point}
 use Rattle.desk_laws.specs.declared.row_id.RowId.{RowId}
 use Rattle.desk_laws.specs.Scene.{Grab}

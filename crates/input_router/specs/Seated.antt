@@ -1,10 +1,10 @@
 -- What is known of a router's seat by the spots of the rows alone.
-use Rattle.std.specs.Prelude.{◌≡◌, Bool, true, false, List, [], ◌∷◌, ◌++◌, Option, Some, None, if◌then◌else◌, pos, ◌-ℤ◌}
+use Rattle.std.specs.Prelude.{Bool, true, false, List, [], ◌∷◌, ◌++◌, Option, Some, None, if◌then◌else◌, pos, ◌-ℤ◌}
 use Rattle.gui_num.specs.declared.Point.{Point}
 use Rattle.desk_laws.specs.declared.row_id.RowId.{RowId}
 use Rattle.desk_laws.specs.declared.input.GIn.TheVariants.{Crossing}
 use Rattle.desk_laws.specs.Layers.{Layers}
-use Rattle.desk_laws.specs.Scene.{Grab, Delivery, Grants, Seat}
+use Rattle.desk_laws.specs.Scene.{Grab, Delivery, Grants}
 use Rattle.desk_laws.specs.Settle.{same_id}
 use Rattle.input_router.specs.Spots.{Spot, is_shown_at}
 use Rattle.input_router.specs.Walks.{owner_of}

@@ -1,5 +1,5 @@
 -- The rows that are looked for in the stack and in the focus list.
-use Rattle.std.specs.Prelude.{Bool, true, false, ◌&&◌, not, List, ◌++◌, reverse, find, Option, Some, None, if◌then◌else◌}
+use Rattle.std.specs.Prelude.{Bool, false, ◌&&◌, not, ◌++◌, reverse, find, Option, Some, None, if◌then◌else◌}
 use Rattle.gui_num.specs.declared.Point.{Point}
 use Rattle.desk_laws.specs.declared.row_id.RowId.{RowId}
 use Rattle.desk_laws.specs.Layers.{Layers, last_that}

@@ -1,7 +1,7 @@
 // The pointer: where it is, on which row, and what its moves and buttons are for the rows.
 ghost use Rattle.std.specs.Prelude.{◌≡◌, ℕ, ◌∷◌, [], ◌-ℤ◌, ◌≤ℤ◌, pos, negsuc, true, false, IsTrue, IfSome, Some, None, if◌then◌else◌};
 ghost use Rattle.desk_laws.specs.declared.setup.Setup.{Setup};
-ghost use Rattle.desk_laws.specs.Events.{grabbing, with_pointer, on_desktop, move, press_by, press_owner, press_row, release_by};
+ghost use Rattle.desk_laws.specs.Events.{grabbing, with_pointer, on_desktop, move, press, press_by, press_owner, press_row, release_by};
 ghost use Rattle.desk_laws.specs.Layers.{is_in, raised, topmost};
 ghost use Rattle.desk_laws.specs.Scene.{Scene};
 ghost use Rattle.input_router.specs.Deliveries.{Leads};
@@ -235,7 +235,7 @@ impl Router {
     }
 
     // A button is pressed. Answers the row that was raised.
-    pub(crate) fn press<Q: Places, V: Deliver>(
+    fn press<Q: Places, V: Deliver>(
         &mut self,
         button: u8,
         state: u16,
@@ -259,13 +259,7 @@ impl Router {
     }
 
     // A button is released, which matters where a grab holds it.
-    pub(crate) fn release<Q: Places, V: Deliver>(
-        &mut self,
-        button: u8,
-        state: u16,
-        places: &Q,
-        to: &mut V,
-    )
+    fn release<Q: Places, V: Deliver>(&mut self, button: u8, state: u16, places: &Q, to: &mut V)
         ensures { (border : ℕ) (scene : Scene) → Shows border (Q.spots places.now) scene → scene.seat ≡ self.old
             → Carries V.delivers to.old to.new self.new (release_by scene.seat.grab button state scene) }
     {
@@ -273,5 +267,27 @@ impl Router {
             self.tell_button(id, false, button, state, places, to);
             self.let_go(button);
         }
+    }
+
+    // A button is pressed or released. Answers the row that was raised.
+    pub(crate) fn button<Q: Places, V: Deliver>(
+        &mut self,
+        down: bool,
+        button: u8,
+        state: u16,
+        stack: &mut Stacking,
+        places: &Q,
+        to: &mut V,
+    ) -> Option<RowId>
+        ensures rows { stack.new.rows ≡ stack.old.rows }
+        ensures routes { (setup : Setup) (scene : Scene) → Presents setup.border (Q.spots places.now) stack.old.layers self.old scene
+            → Routes V.delivers to.old to.new self.new stack.old.layers stack.new.layers (record { raised = result; changed = None })
+            (press setup down button state scene) }
+    {
+        if down {
+            return self.press(button, state, stack, places, to);
+        }
+        self.release(button, state, places, to);
+        None
     }
 }

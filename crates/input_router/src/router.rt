@@ -1,10 +1,18 @@
 // The router: what is kept of the user's doings.
 ghost use Rattle.std.specs.Prelude.{◌≡◌};
-ghost use Rattle.desk_laws.specs.Scene.{idle_seat};
+ghost use Rattle.desk_laws.specs.declared.setup.Setup.{Setup};
+ghost use Rattle.desk_laws.specs.Events.{route};
+ghost use Rattle.desk_laws.specs.Scene.{Scene, idle_seat};
+ghost use Rattle.input_router.specs.Presents.{Presents};
+ghost use Rattle.input_router.specs.Routes.{AreMapped, HasPixel, StaysOn, Routes};
 
 use crate::codes::Codes;
-use desk_laws::RowId;
+use crate::commands::{close_focus, move_focus, raise_next, restore_last, size_focus};
+use crate::deliver::Deliver;
+use crate::places::Places;
+use desk_laws::{Item, RowId};
 use gui_num::Point;
+use stacking::Stacking;
 use std::marker::Model;
 
 /// Where the pointer is, which row is grabbed, the keys that are held, and the focus and the hover as
@@ -33,8 +41,9 @@ impl Model for Router {
     ghost invariant = { λ r. IfSome r.pointer IsPixel };
 }
 
-/// What an event did to the stack and to a place: the row that it raised, and the row to which it
-/// granted Place or Restored, each `None` exactly where there is none.
+/// What an event did to the stack and to a place: the row that it raised (where it is `None` the layers
+/// are as they were), and the row to which it granted Place or Restored, `None` exactly where there is
+/// none.
 #[derive(Clone, Copy, Debug, PartialEq, Eq)]
 pub struct Routed {
     pub raised: Option<RowId>,
@@ -69,4 +78,59 @@ impl Router {
     {
         self.hover
     }
+
+    /// Takes an event of the user: changes the stack, and tells the rows what is for them. An item that
+    /// is no such event does nothing. No memory is taken.
+    ///
+    /// A row of the stack that isn't shown counts as hidden. What comes of it is what `route` of the
+    /// definitions gives, for every setup and scene that these places, this stack and this router are
+    /// those of, where the pixel of a Move is on the desktop.
+    pub fn route<Q: Places, V: Deliver>(
+        &mut self,
+        item: &Item,
+        stack: &mut Stacking,
+        places: &Q,
+        to: &mut V,
+    ) -> Routed
+        requires { HasPixel item.now }
+        ensures rows { stack.new.rows ≡ stack.old.rows }
+        ensures routes { (setup : Setup) (scene : Scene) → Presents setup.border (Q.spots places.now) stack.old.layers self.old scene
+            → AreMapped scene → StaysOn setup item.now
+            → Routes V.delivers to.old to.new self.new stack.old.layers stack.new.layers result (route setup item.now scene) }
+    {
+        match *item {
+            Item::Key { down, code, state } => {
+                self.key(down, code, state, stack, places, to);
+                named(None, None)
+            }
+            Item::Move { x, y, state } => {
+                self.point(Point { x, y }, state, stack, places, to);
+                named(None, None)
+            }
+            Item::Press {
+                down,
+                button,
+                state,
+            } => { named(self.button(down, button, state, stack, places, to), None) }
+            Item::Close => {
+                close_focus(stack, places, to);
+                named(None, None)
+            }
+            Item::Next => named(raise_next(stack, places), None),
+            Item::Restore => {
+                let restored = restore_last(stack, places, to);
+                named(restored, restored)
+            }
+            Item::MoveTo { x, y } => named(None, move_focus(x, y, stack, places, to)),
+            Item::SizeTo { w, h } => named(None, size_focus(w, h, stack, places, to)),
+            _ => named(None, None),
+        }
+    }
+}
+
+// The row that was raised, and the one whose place was changed.
+fn named(raised: Option<RowId>, changed: Option<RowId>) -> Routed
+    ensures { result ≡ record { raised = raised; changed = changed } }
+{
+    Routed { raised, changed }
 }

@@ -1,7 +1,7 @@
 use Rattle.std.proofs.Common.{Bool, sym, ◌∙◌, refl, arith}
 use Rattle.desk_laws.specs.declared.row_id.RowId.{RowId}
 use Rattle.input_router.specs.Walks.{is_wanted}
-use Rattle.input_router.proofs.WalkLemmas.{find-hit, find-miss, find-end, find-in}
+use Rattle.input_router.proofs.WalkLemmas.{find-hit, find-miss, find-none, find-in}
 use Rattle.input_router.proofs.walks.first_listed.Goals as goal
 
 pub loop-k-init : goal.loop-k-init
@@ -25,4 +25,4 @@ loop-k-preserved g c =
 pub returns-clause-is : goal.returns-clause-is
 returns-clause-is g c =
     let test : RowId → Bool = λ id. is_wanted c.args.wanted (g.Q.Places.spots c.args.places.now id) in
-    sym (find-end test c.args.stack.now.layers.focus c.loop-k.k (omega (arith, c.len-k-end.ensures.is))) ∙ c.loop-k.invariant
+    find-none test c.args.stack.now.layers.focus c.loop-k.k c.loop-k.invariant (omega (arith, c.len-k-end.ensures.is))

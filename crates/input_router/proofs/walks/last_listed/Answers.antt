@@ -1,8 +1,8 @@
-use Rattle.std.proofs.Common.{◌≡◌, ◌≤◌, ◌-◌, Bool, take, sym, ◌∙◌, ap, arith}
+use Rattle.std.proofs.Common.{◌-◌, Bool, sym, ◌∙◌, ap, arith}
 use Rattle.desk_laws.specs.declared.row_id.RowId.{RowId}
 use Rattle.desk_laws.specs.Layers.{last_that}
 use Rattle.input_router.specs.Walks.{is_wanted}
-use Rattle.input_router.proofs.WalkLemmas.{last-hit, last-miss, last-in, last-end, take-whole}
+use Rattle.input_router.proofs.WalkLemmas.{last-hit, last-miss, last-in, last-none, take-whole}
 use Rattle.input_router.proofs.walks.last_listed.Goals as goal
 
 pub loop-left-init : goal.loop-left-init
@@ -29,4 +29,4 @@ loop-left-preserved g c =
 pub returns-clause-is : goal.returns-clause-is
 returns-clause-is g c =
     let test : RowId → Bool = λ id. is_wanted c.args.wanted (g.Q.Places.spots c.args.places.now id) in
-    sym (last-end test c.args.stack.now.layers.focus c.loop-left.left c.loop-left-test.false) ∙ c.loop-left.invariant
+    last-none test c.args.stack.now.layers.focus c.loop-left.left c.loop-left.invariant c.loop-left-test.false

@@ -1,7 +1,7 @@
-use Rattle.std.proofs.Common.{◌≡◌, ◌≤◌, ◌++◌, Bool, List, length, reverse, sym, ◌∙◌, refl, arith}
+use Rattle.std.proofs.Common.{◌≤◌, ◌++◌, Bool, length, reverse, sym, ◌∙◌, refl, arith}
 use Rattle.desk_laws.specs.declared.row_id.RowId.{RowId}
 use Rattle.input_router.specs.Spots.{is_under}
-use Rattle.input_router.proofs.WalkLemmas.{find-hit, find-miss, find-end, top-listed, stack-length}
+use Rattle.input_router.proofs.WalkLemmas.{find-hit, find-miss, find-none, top-listed, stack-length}
 use Rattle.input_router.proofs.walks.top_at.Goals as goal
 
 pub loop-k-init : goal.loop-k-init
@@ -31,4 +31,4 @@ returns-clause-is g c =
     let test : RowId → Bool = λ id. is_under c.args.p (g.Q.Places.spots c.args.places.now id) in
     let ids = reverse (c.args.stack.now.layers.normal ++ c.args.stack.now.layers.over) in
     let past : length ids ≤ c.loop-k.k = omega (arith, stack-length c.args.stack.now.layers c.len-k-end.ensures.once, c.len-k-end.ensures.is) in
-    sym (find-end test ids c.loop-k.k past) ∙ c.loop-k.invariant
+    find-none test ids c.loop-k.k c.loop-k.invariant past

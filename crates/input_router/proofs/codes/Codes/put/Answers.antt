@@ -1,4 +1,4 @@
-use Rattle.std.proofs.Common.{◌≡◌, ◌<◌, sym, ◌∙◌, subst, arith, false, List, ℕ}
+use Rattle.std.proofs.Common.{◌≡◌, ◌<◌, sym, subst, arith, false, List, ℕ}
 use Rattle.desk_laws.specs.Events.{is_among}
 use Rattle.input_router.specs.Codes.{AreCodes}
 use Rattle.input_router.proofs.CodeLemmas.{put-codes, has-room}
