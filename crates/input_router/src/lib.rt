@@ -14,6 +14,8 @@ mod places;
 mod pointer;
 mod router;
 mod settle;
+#[cfg(test)]
+mod tests;
 mod walks;
 
 pub use deliver::Deliver;
