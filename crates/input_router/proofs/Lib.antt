@@ -1,4 +1,5 @@
 pub mod CodeLemmas
+pub mod DeliveryLemmas
 pub mod PointerLemmas
 pub mod RouteLemmas
 pub mod SceneLemmas
