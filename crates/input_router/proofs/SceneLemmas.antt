@@ -1,5 +1,5 @@
 -- The rows of a scene that are found by the spots alone.
-use Rattle.std.proofs.Common.{◌≡◌, ℕ, Bool, true, false, ◌&&◌, not, ◌==◌, List, [], ◌∷◌, ◌++◌, Option, Some, None, refl, sym, ◌∙◌, ap}
+use Rattle.std.proofs.Common.{◌≡◌, ℕ, Bool, true, false, ◌&&◌, not, ◌==◌, List, [], ◌∷◌, ◌++◌, map, Option, Some, None, refl, sym, ◌∙◌, ap}
 use Rattle.std.specs.Prelude.{filter_map, find, option_map, option_and_then, IfSome, if◌then◌else◌}
 use Rattle.std.specs.List.{cons_option}
 use Rattle.std.proofs.lemmas.Bool.{and_parts, eqb-true}
@@ -7,9 +7,11 @@ use Rattle.gui_num.specs.declared.Point.{Point}
 use Rattle.gui_num.specs.Rects.{has}
 use Rattle.desk_laws.specs.declared.row_id.RowId.{RowId}
 use Rattle.desk_laws.specs.Rows.{Row, id_of, is_row, row_at, is_shown, is_hidden, outer}
-use Rattle.desk_laws.specs.Layers.{or_else, last_that, topmost, focus_of}
+use Rattle.desk_laws.specs.Layers.{are_apart, or_else, last_that, topmost, focus_of}
 use Rattle.desk_laws.specs.Events.{listed}
+use Rattle.desk_laws.specs.Following.{LayersFollow}
 use Rattle.desk_laws.specs.Scene.{Scene}
+use Rattle.desk_laws.proofs.FollowLemmas.{focus-has, is_listed, passes as is_there}
 use Rattle.input_router.specs.declared.walks.Wanted.TheVariants.{Normal, Hidden}
 use Rattle.input_router.specs.Commanded.{with_place, place_in}
 use Rattle.input_router.specs.Routes.{AreMapped}
@@ -197,3 +199,11 @@ module _ (border : ℕ) (spots : RowId → Option Spot) (scene : Scene) (shows :
           ap (with_place id) (shows id) ∙ ap (λ r. with_place id (option_map (spot_of border) r)) at.1
           ∙ ap (λ (i : RowId). Some (i, at.0.place)) (sym (row-id id scene.rows at.0 at.1))
           ∙ sym (ap (option_map (λ row. (id_of row, row.place))) at.1)
+
+-- where the lists follow the rows, those of the stack are mapped
+pub listed-mapped : (scene : Scene) → are_apart (map id_of scene.rows) ≡ true → LayersFollow scene.rows scene.layers → AreMapped scene
+listed-mapped scene apart follow = λ id here. by_row (row_at id scene.rows) (sym (focus-has scene.rows scene.layers apart follow id) ∙ here)
+  where
+    by_row : (o : Option Row) → is_there is_listed o ≡ true → IfSome o (λ row. row.mapped ≡ true)
+    by_row None h = absurd (cc)
+    by_row (Some row) h = h
