@@ -1,9 +1,10 @@
 // The tiles that are held, in the order of their spots.
-ghost use Rattle.std.specs.Prelude.{◌≡◌, ℕ, ◌+◌, ◌-◌, ◌*◌, ◌<◌, ◌≤◌, ◌^◌, true, false, [], ◌∷◌, ◌++◌, length, take, drop, Some, None, slice_index, slice_index_or, vec_len, vec_capacity, map, filter};
+ghost use Rattle.std.specs.Prelude.{◌≡◌, ℕ, ◌+◌, ◌-◌, ◌*◌, ◌<◌, ◌≤◌, ◌^◌, true, false, [], ◌∷◌, ◌++◌, length, take, drop, Some, None, slice_index, slice_index_or, slice_set, vec_len, vec_capacity, map, filter};
 ghost use Rattle.tile_store.specs.declared.shelf.Entry.{Entry};
 ghost use Rattle.tile_store.specs.Kept.{tile_in, tiles_in, laid, numbers, times, AreOnce, AreOwned, TakesSquare, ClosesOne, cut_at, stays};
 ghost use Rattle.tile_store.specs.declared.square.TheConstants.{PIXELS};
 ghost use Rattle.tile_store.specs.Spots.{before, same};
+ghost use Rattle.tile_store.specs.Squares.{blank};
 ghost use Rattle.tile_store.specs.Held.{tile_at, is_held, pixel_in, rises, with_tile, written, row_written, swept, cut_tile, is_left, blank_tile};
 ghost use Rattle.tile_store.specs.Contents.{colour_or};
 ghost use Rattle.tile_store.specs.Places.{IsPlaceFor, is_first};
@@ -211,8 +212,7 @@ fn take_square(squares: &mut Vec<Square>, spare: &mut Vec<u32>) -> u32
 {
     match spare.pop() {
         Some(number) => {
-            let square = &mut squares[number as usize];
-            square.clear();
+            blank_out(squares, number);
             number
         }
         None => {
@@ -221,6 +221,16 @@ fn take_square(squares: &mut Vec<Square>, spare: &mut Vec<u32>) -> u32
             number
         }
     }
+}
+
+// Forgets all pixels of a square.
+fn blank_out(squares: &mut Vec<Square>, number: u32)
+    requires { number < length squares.old.items }
+    ensures blank { squares.new.items ≡ slice_set squares.old.items number blank }
+    ensures capacity { vec_capacity squares.new ≡ vec_capacity squares.old }
+{
+    let square = &mut squares[number as usize];
+    square.clear();
 }
 
 // Cuts the tiles of a slot to w columns and h rows, and gives back those that have no pixel left.
