@@ -1,5 +1,5 @@
 // The rows of a stacking in the order of their ids: the layer of one is found by halving, and mostly at once, where
-// its key stood when a row came or went last.
+// its key stood when it was found last.
 ghost use Rattle.std.specs.Prelude.{◌≡◌, ℕ, ◌+◌, ◌<◌, ◌≤◌, ◌==◌, false, true, not, filter, length, drop, is_some, Some, None, vec_len, vec_capacity, if◌then◌else◌};
 ghost use Rattle.std.specs.List.{insert, remove};
 ghost use Rattle.desk_laws.specs.Rows.{same_row};
@@ -93,15 +93,14 @@ pub(crate) fn layer_in(keys: &[Key], notes: &[u32], id: RowId) -> Option<bool>
     layer_near(keys, notes[note_of(id)] as usize, id)
 }
 
-// Notes where each row's key stands.
-pub(crate) fn note_all(notes: &mut Vec<u32>, keys: &[Key])
+// Notes where a row's key stands, unless that is noted.
+pub(crate) fn note(notes: &mut Vec<u32>, keys: &[Key], id: RowId)
     requires { length notes.old.items ≡ NOTES }
     ensures { length notes.new.items ≡ NOTES }
 {
-    let mut place = 0u32;
-    for key in keys {
-        notes[note_of(key.id)] = place;
-        place = place.wrapping_add(1);
+    let k = note_of(id);
+    if layer_at(keys, notes[k] as usize, id).is_none() {
+        notes[k] = (place_for(keys, id) % 0x1_0000_0000) as u32;
     }
 }
 

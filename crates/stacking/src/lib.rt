@@ -10,7 +10,7 @@ ghost use Rattle.std.specs.Prelude.{◌≡◌, ◌+◌, ◌<◌, ◌≤◌, ◌�
 ghost use Rattle.desk_laws.specs.Layers.{HaveRowsOnce, no_layers, is_in, without, to_end, entered, departed, raised, relayered, id_from_top};
 ghost use Rattle.desk_laws.specs.Following.{without_guest};
 
-use crate::index::{Key, NOTES, layer_in, note_all, put_key, take_guest_keys, take_key};
+use crate::index::{Key, NOTES, layer_in, note, put_key, take_guest_keys, take_key};
 use desk_laws::RowId;
 use gui_num::NoMemory;
 use std::alloc::Global;
@@ -67,7 +67,6 @@ impl Stacking {
     {
         put_first(&mut self.focus, id);
         put_key(&mut self.keys, id, over);
-        note_all(&mut self.notes, &self.keys);
         if over {
             self.over.push_reserved(id);
         } else {
@@ -101,7 +100,6 @@ impl Stacking {
         take_out(&mut self.over, id);
         take_out(&mut self.focus, id);
         take_key(&mut self.keys, id);
-        note_all(&mut self.notes, &self.keys);
     }
 
     /// Takes out all rows of a guest, counted from 0.
@@ -112,7 +110,6 @@ impl Stacking {
         take_guest_out(&mut self.over, guest);
         take_guest_out(&mut self.focus, guest);
         take_guest_keys(&mut self.keys, guest);
-        note_all(&mut self.notes, &self.keys);
     }
 
     /// Puts a row on top of its layer and at the end of the focus list.
@@ -131,6 +128,7 @@ impl Stacking {
         requires { IsTrue (is_in self.old.layers.focus id) }
         ensures { self.new ≡ record self.old { layers = relayered id over self.old.layers } }
     {
+        note(&mut self.notes, &self.keys, id);
         if !self.is_in_layer(id, over) {
             self.change_layer(id, over);
         }

@@ -34,7 +34,7 @@ invariant_of-self c =
       index-same _ _ _ _ _ refl c.push_reserved.ensures.items
           (index-entered _ _ _ _ _ c.self.invariant.0 c.self.invariant.3 c.put_key.ensures.rising c.args.id c.args.over c.if-over.true c.put_key.ensures.layers),
       omega arith,
-      c.note_all.ensures,
+      c.self.invariant.5,
     )
 
 pub invariant_of-self-else-over : goal.invariant_of-self-else-over
@@ -50,5 +50,5 @@ invariant_of-self-else-over c =
           (index-entered-normal _ _ _ _ _ c.self.invariant.0 c.self.invariant.3 c.put_key.ensures.rising c.args.id c.args.over c.if-over.false
           (out-over _ _ _ c.args.id c.self.invariant.0 out) c.put_key.ensures.layers),
       let k = c.self.invariant.4 in omega arith,
-      c.note_all.ensures,
+      c.self.invariant.5,
     )

@@ -15,7 +15,7 @@ invariant_of-self c =
       index-same _ _ _ _ _ c.take_guest_out.ensures.items c.take_guest_out-2.ensures.items
           (index-left _ _ _ _ _ c.self.invariant.0 c.self.invariant.3 c.take_guest_keys.ensures.rising c.args.guest c.take_guest_keys.ensures.layers),
       omega arith,
-      c.note_all.ensures,
+      c.self.invariant.5,
     )
 
 pub take_guest_keys-requires : goal.take_guest_keys-requires

@@ -23,5 +23,5 @@ invariant_of-self c =
       index-same _ _ _ _ _ c.take_out.ensures.items c.take_out-2.ensures.items
           (index-departed _ _ _ _ _ c.self.invariant.0 c.self.invariant.3 c.take_key.ensures.rising c.args.id c.take_key.ensures.layers),
       omega arith,
-      c.note_all.ensures,
+      c.self.invariant.5,
     )
