@@ -176,21 +176,30 @@ fn fill_spans(row: &mut [u32], spans: Spans<'_>, colour: u32)
     }
 }
 
-// Draws the k-th pane where nothing is drawn yet.
-fn paint_pane<Q: Panes>(row: &mut [u32], spans: &mut RowSpans, panes: &Q, k: usize, y: u32)
+// Draws the k-th pane, which has this place, where nothing is drawn yet.
+fn paint_pane<Q: Panes>(
+    row: &mut [u32],
+    spans: &mut RowSpans,
+    panes: &Q,
+    k: usize,
+    place: &PaneView,
+    y: u32,
+)
     requires width { spans.old.width ≡ length row.old }
     requires small { length row.old ≤ 8192 }
     requires row { y < 8192 }
     requires pane { k < length (Q.panes panes.now) }
+    requires view { slice_get (views_of (Q.panes panes.now)) k ≡ Some place.now }
+    requires outer { IsFit place.now.outer }
+    requires content { IsFit place.now.content }
     ensures width { spans.new.width ≡ spans.old.width }
     ensures left { (pane : Pane) → slice_get (Q.panes panes.now) k ≡ Some pane → (x : ℕ) → in_spans spans.new.spans x ≡ (in_spans spans.old.spans x && not (has pane.view.outer (at_pixel x y))) }
     ensures row { (pane : Pane) → slice_get (Q.panes panes.now) k ≡ Some pane → (x : ℕ) → x < length row.old → slice_index row.new x ≡ (if in_spans spans.old.spans x && has pane.view.outer (at_pixel x y) then pane_colour pane (at_pixel x y) else slice_index row.old x) }
 {
-    let place = panes.view(k);
     if in_row(place.outer, y) {
         let x0 = column(place.outer.x);
         let x1 = right_column(place.outer);
-        draw_spans(row, spans.spans_in(x0, x1), panes, k, &place, x0, x1, y);
+        draw_spans(row, spans.spans_in(x0, x1), panes, k, place, x0, x1, y);
         spans.cut(x0, x1);
     }
 }
@@ -202,6 +211,7 @@ fn paint_pane_at<Q: Panes>(
     spans: &mut RowSpans,
     panes: &Q,
     k: usize,
+    place: &PaneView,
     y: u32,
     width: u32,
 )
@@ -210,6 +220,9 @@ fn paint_pane_at<Q: Panes>(
     requires row { y < 8192 }
     requires inside { start + width ≤ length pixels.old }
     requires pane { k < length (Q.panes panes.now) }
+    requires view { slice_get (views_of (Q.panes panes.now)) k ≡ Some place.now }
+    requires outer { IsFit place.now.outer }
+    requires content { IsFit place.now.content }
     ensures width { spans.new.width ≡ width }
     ensures left { (pane : Pane) → slice_get (Q.panes panes.now) k ≡ Some pane → (x : ℕ) → in_spans spans.new.spans x ≡ (in_spans spans.old.spans x && not (has pane.view.outer (at_pixel x y))) }
     ensures here { (pane : Pane) → slice_get (Q.panes panes.now) k ≡ Some pane → (x : ℕ) → x < width → slice_index pixels.new (start + x) ≡ (if in_spans spans.old.spans x && has pane.view.outer (at_pixel x y) then pane_colour pane (at_pixel x y) else slice_index pixels.old (start + x)) }
@@ -217,7 +230,7 @@ fn paint_pane_at<Q: Panes>(
     ensures behind { (i : ℕ) → start + width ≤ i → slice_index pixels.new i ≡ slice_index pixels.old i }
 {
     let end = start + width as usize;
-    paint_pane(&mut pixels[start..end], spans, panes, k, y);
+    paint_pane(&mut pixels[start..end], spans, panes, k, place, y);
 }
 
 // Draws the k-th pane where nothing is drawn yet in the rows of a band, from its first one down.
@@ -237,9 +250,11 @@ fn paint_down<Q: Panes>(
     ensures widths { AreAsWide width rows.new }
     ensures shown { (pane : Pane) → slice_get (Q.panes panes.now) k ≡ Some pane → (background : ℕ) (below : List Pane) (j x : ℕ) → j < length rows.old → x < width → will_show background below top width (record { rows = rows.new; pixels = pixels.new }) j x ≡ will_show background (pane ∷ below) top width (record { rows = rows.old; pixels = pixels.old }) j x }
 {
+    let place = panes.view(k);
     for j in 0..rows.len() {
         let start = j * width as usize;
-        paint_pane_at(pixels, start, &mut rows[j], panes, k, top + j as u32, width);
+        let y = top + j as u32;
+        paint_pane_at(pixels, start, &mut rows[j], panes, k, &place, y, width);
     }
 }
 

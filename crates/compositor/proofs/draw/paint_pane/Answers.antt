@@ -13,8 +13,8 @@ z n = to_z w32 (of_z w32 n)
 
 pub returns-then-in_row-clause-left : goal.returns-then-in_row-clause-left
 returns-then-in_row-clause-left g c = λ pane is x.
-    let v = c.view-place.result in
-    let e = view-is (g.Q.Panes.panes c.args.panes.now) c.args.k pane v is c.view-place.ensures.this in
+    let v = c.args.place.now in
+    let e = view-is (g.Q.Panes.panes c.args.panes.now) c.args.k pane v is c.requires.view in
     let x0 : c.column-x0.result ≡ nat_of v.outer.x = (let k : z v.outer.x ≡ v.outer.x = omega (arith, ints) in c.column-x0.ensures ∙ ap nat_of k) in
     c.cut.ensures.columns x
     ∙ ap (λ b. in_spans c.args.spans.now.spans x && not b)
@@ -23,8 +23,8 @@ returns-then-in_row-clause-left g c = λ pane is x.
 
 pub returns-then-in_row-clause-row : goal.returns-then-in_row-clause-row
 returns-then-in_row-clause-row g c = λ pane is x below.
-    let v = c.view-place.result in
-    let e = view-is (g.Q.Panes.panes c.args.panes.now) c.args.k pane v is c.view-place.ensures.this in
+    let v = c.args.place.now in
+    let e = view-is (g.Q.Panes.panes c.args.panes.now) c.args.k pane v is c.requires.view in
     let x0 : c.column-x0.result ≡ nat_of v.outer.x = (let k : z v.outer.x ≡ v.outer.x = omega (arith, ints) in c.column-x0.ensures ∙ ap nat_of k) in
     let colour = pane_colour pane (at_pixel x c.args.y) in
     let old = slice_index c.args.row.now x in
@@ -36,12 +36,12 @@ returns-then-in_row-clause-row g c = λ pane is x below.
 
 pub returns-else-in_row-clause-left : goal.returns-else-in_row-clause-left
 returns-else-in_row-clause-left g c = λ pane is x.
-    let e = view-is (g.Q.Panes.panes c.args.panes.now) c.args.k pane c.view-place.result is c.view-place.ensures.this in
+    let e = view-is (g.Q.Panes.panes c.args.panes.now) c.args.k pane c.args.place.now is c.requires.view in
     kept-left (in_spans c.args.spans.now.spans x) (has pane.view.outer (at_pixel x c.args.y))
     (sym (ap (λ (u : PaneView). has u.outer (at_pixel x c.args.y)) e) ∙ no_row _ _ c.if-in_row.ensures)
 
 pub returns-else-in_row-clause-row : goal.returns-else-in_row-clause-row
 returns-else-in_row-clause-row g c = λ pane is x below.
-    let e = view-is (g.Q.Panes.panes c.args.panes.now) c.args.k pane c.view-place.result is c.view-place.ensures.this in
+    let e = view-is (g.Q.Panes.panes c.args.panes.now) c.args.k pane c.args.place.now is c.requires.view in
     kept-row (in_spans c.args.spans.now.spans x) (has pane.view.outer (at_pixel x c.args.y)) (pane_colour pane (at_pixel x c.args.y)) (slice_index c.args.row.now x)
     (sym (ap (λ (u : PaneView). has u.outer (at_pixel x c.args.y)) e) ∙ no_row _ _ c.if-in_row.ensures)
