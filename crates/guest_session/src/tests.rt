@@ -359,7 +359,7 @@ fn report_pixel(run: &mut Run, window: u32, x: u32, word: u32) -> Result<(), NoM
     Ok(())
 }
 
-// Reports the pixels of a window in columns 0, 64, 128 and 192 of row 7, each in a tile of its own.
+// Reports the pixels of a window in columns 0, 64, 128 and 192 of its eighth row, each in a tile of its own.
 fn report_four(run: &mut Run, window: u32) -> Result<(), NoMemory>
     requires { window ≤ 1024 }
 {
