@@ -14,8 +14,9 @@ use Rattle.compositor.specs.Composed as composed
 use Rattle.compositor.specs.Composed.{Pane, views_of}
 use Rattle.desk_laws.specs.Rows.{span}
 use Rattle.desk_laws.proofs.GridLemmas.{length-span, get_or-span}
+use Rattle.desk_laws.specs.Ranges.{IsPlace}
 use Rattle.tile_store.specs.Contents as tiles
-use Rattle.guest_session.specs.SessionView.{SessionView, IsPlace}
+use Rattle.guest_session.specs.SessionView.{SessionView}
 use Rattle.desk_core.specs.ShownView.{ShownView, CanBePainted}
 use Rattle.desk_core.specs.Panes.{pane_of}
 

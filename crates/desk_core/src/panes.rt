@@ -4,8 +4,8 @@ ghost use Rattle.std.specs.List.{cons_option};
 ghost use Rattle.desk_laws.specs.declared.row_id.RowId.{RowId};
 ghost use Rattle.desk_laws.specs.Layers.{id_from_top};
 ghost use Rattle.desk_laws.specs.Rows.{row_with};
+ghost use Rattle.desk_laws.specs.Ranges.{IsPlace};
 ghost use Rattle.guest_session.specs.Reading.{content_in};
-ghost use Rattle.guest_session.specs.SessionView.{IsPlace};
 ghost use Rattle.compositor.specs.Composed.{colour_or};
 ghost use Rattle.desk_core.specs.Panes.{is_shown_window, bordered, content_of, pane_of, shown_of, shown_row, shown_with};
 

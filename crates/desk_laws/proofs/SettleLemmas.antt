@@ -7,14 +7,14 @@ use Rattle.desk_laws.specs.declared.row_id.RowId.{RowId}
 use Rattle.desk_laws.specs.declared.input.GIn.{GIn}
 use Rattle.desk_laws.specs.declared.input.GIn.TheVariants.{Crossing, Focus, Keymap, ClipAsk, ClipGive}
 use Rattle.desk_laws.specs.Sizes.{Sizes}
-use Rattle.desk_laws.specs.Stage.{tells_focus}
+use Rattle.desk_laws.specs.Stage.{uses_clipboard}
 use Rattle.desk_laws.specs.Rows.{Row, mine, row_with, row_at}
 use Rattle.desk_laws.specs.Layers.{followed}
 use Rattle.desk_laws.specs.Following.{LayersFollow}
 use Rattle.desk_laws.specs.Effects.{Same, changed}
 use Rattle.desk_laws.specs.Grants.{window_of, grant_change, granted, granted_by, granted_to}
 use Rattle.desk_laws.specs.Clipboard.{Content, ask, wiped}
-use Rattle.desk_laws.specs.Scene.{Scene, SceneOutcome, Delivery, Grants, Asks, Pastes, InputOutcome, grant, grant_where, deliver, deliver_all, pastes, perform, unchanged, with_clip}
+use Rattle.desk_laws.specs.Scene.{Scene, Delivery, Grants, Asks, Pastes, InputOutcome, grant, grant_where, deliver, deliver_all, asks, pastes, unchanged, with_clip}
 use Rattle.desk_laws.specs.Settle.{focus_now, hover_now, same_id, pointer_in, crossing, focusing, keymap, focus_told, hover_told, grab_checked, settled_seat, settled, settle}
 use Rattle.desk_laws.proofs.FollowChanges.{followed-same}
 
@@ -87,30 +87,54 @@ told-quiet (Pastes id) told = tt
 
 deliver-rows : (d : Delivery) (scene : Scene) → IsQuiet d → (deliver d scene).scene.rows ≡ scene.rows
 deliver-rows (Grants id input) scene quiet = grant-rows id input [] scene quiet
-deliver-rows (Asks id) scene quiet = grant-rows id (ClipAsk id.window) [] (with_clip (ask id.guest scene.clip) scene) (λ row. refl)
-deliver-rows (Pastes id) scene quiet = by_content scene.clip.content
+deliver-rows (Asks id) scene quiet = by_stage uses_clipboard
+  where
+    by_stage : (b : Bool) → (if b then asks id scene else unchanged scene).scene.rows ≡ scene.rows
+    by_stage true = grant-rows id (ClipAsk id.window) [] (with_clip (ask id.guest scene.clip) scene) (λ row. refl)
+    by_stage false = refl
+deliver-rows (Pastes id) scene quiet = by_stage uses_clipboard
   where
     by_content : (o : Option Content) → (pastes id o scene).scene.rows ≡ scene.rows
     by_content None = refl
     by_content (Some content) = grant-rows id (ClipGive id.window) content.bytes (with_clip (wiped scene.clip) scene) (λ row. refl)
 
+    by_stage : (b : Bool) → (if b then pastes id scene.clip.content scene else unchanged scene).scene.rows ≡ scene.rows
+    by_stage true = by_content scene.clip.content
+    by_stage false = refl
+
 deliver-layers : (d : Delivery) (scene : Scene) → IsQuiet d → LayersFollow scene.rows scene.layers → (deliver d scene).scene.layers ≡ scene.layers
 deliver-layers (Grants id input) scene quiet follow = grant-layers id input [] scene quiet follow
-deliver-layers (Asks id) scene quiet follow = grant-layers id (ClipAsk id.window) [] (with_clip (ask id.guest scene.clip) scene) (λ row. refl) follow
-deliver-layers (Pastes id) scene quiet follow = by_content scene.clip.content
+deliver-layers (Asks id) scene quiet follow = by_stage uses_clipboard
+  where
+    by_stage : (b : Bool) → (if b then asks id scene else unchanged scene).scene.layers ≡ scene.layers
+    by_stage true = grant-layers id (ClipAsk id.window) [] (with_clip (ask id.guest scene.clip) scene) (λ row. refl) follow
+    by_stage false = refl
+deliver-layers (Pastes id) scene quiet follow = by_stage uses_clipboard
   where
     by_content : (o : Option Content) → (pastes id o scene).scene.layers ≡ scene.layers
     by_content None = refl
     by_content (Some content) = grant-layers id (ClipGive id.window) content.bytes (with_clip (wiped scene.clip) scene) (λ row. refl) follow
 
+    by_stage : (b : Bool) → (if b then pastes id scene.clip.content scene else unchanged scene).scene.layers ≡ scene.layers
+    by_stage true = by_content scene.clip.content
+    by_stage false = refl
+
 deliver-seat : (d : Delivery) (scene : Scene) → (deliver d scene).scene.seat ≡ scene.seat
 deliver-seat (Grants id input) scene = grant-seat id input [] scene
-deliver-seat (Asks id) scene = grant-seat id (ClipAsk id.window) [] (with_clip (ask id.guest scene.clip) scene)
-deliver-seat (Pastes id) scene = by_content scene.clip.content
+deliver-seat (Asks id) scene = by_stage uses_clipboard
+  where
+    by_stage : (b : Bool) → (if b then asks id scene else unchanged scene).scene.seat ≡ scene.seat
+    by_stage true = grant-seat id (ClipAsk id.window) [] (with_clip (ask id.guest scene.clip) scene)
+    by_stage false = refl
+deliver-seat (Pastes id) scene = by_stage uses_clipboard
   where
     by_content : (o : Option Content) → (pastes id o scene).scene.seat ≡ scene.seat
     by_content None = refl
     by_content (Some content) = grant-seat id (ClipGive id.window) content.bytes (with_clip (wiped scene.clip) scene)
+
+    by_stage : (b : Bool) → (if b then pastes id scene.clip.content scene else unchanged scene).scene.seat ≡ scene.seat
+    by_stage true = by_content scene.clip.content
+    by_stage false = refl
 
 deliver-clip : (d : Delivery) (scene : Scene) → IsTold d → (deliver d scene).scene.clip ≡ scene.clip
 deliver-clip (Grants id input) scene told = grant-clip id input [] scene
@@ -193,43 +217,21 @@ module _ (sizes : Sizes) (scene : Scene) where
   told-quietly : All IsQuiet told.deliveries
   told-quietly = All-weaker IsTold IsQuiet told-quiet told.deliveries (settled-told sizes (grab_checked scene))
 
-  -- the scene settled, where focus and hover are told or not
-  abbrev staged : Bool → SceneOutcome
-  staged b = if b then perform told scene else unchanged scene
-
   -- no row changes
   pub settle-rows : (settle sizes scene).scene.rows ≡ scene.rows
-  settle-rows = by_stage tells_focus
-    where
-      by_stage : (b : Bool) → (staged b).scene.rows ≡ scene.rows
-      by_stage true = all-rows told.deliveries (record scene { seat = told.seat }) told-quietly
-      by_stage false = refl
+  settle-rows = all-rows told.deliveries (record scene { seat = told.seat }) told-quietly
 
   -- no list changes, where they follow the rows
   pub settle-layers : LayersFollow scene.rows scene.layers → (settle sizes scene).scene.layers ≡ scene.layers
-  settle-layers follow = by_stage tells_focus
-    where
-      by_stage : (b : Bool) → (staged b).scene.layers ≡ scene.layers
-      by_stage true = all-layers told.deliveries (record scene { seat = told.seat }) told-quietly follow
-      by_stage false = refl
+  settle-layers follow = all-layers told.deliveries (record scene { seat = told.seat }) told-quietly follow
 
   -- the clipboard doesn't change
   pub settle-clip : (settle sizes scene).scene.clip ≡ scene.clip
-  settle-clip = by_stage tells_focus
-    where
-      by_stage : (b : Bool) → (staged b).scene.clip ≡ scene.clip
-      by_stage true = all-clip told.deliveries (record scene { seat = told.seat }) (settled-told sizes (grab_checked scene))
-      by_stage false = refl
+  settle-clip = all-clip told.deliveries (record scene { seat = told.seat }) (settled-told sizes (grab_checked scene))
 
-  -- the seat is the one in which focus and hover are told, once they are
-  pub settle-seat : (settle sizes scene).scene.seat
-      ≡ (if tells_focus then settled_seat (focus_now scene) (hover_now sizes (grab_checked scene)) (grab_checked scene).seat else scene.seat)
-  settle-seat = by_stage tells_focus
-    where
-      by_stage : (b : Bool) → (staged b).scene.seat
-          ≡ (if b then settled_seat (focus_now scene) (hover_now sizes (grab_checked scene)) (grab_checked scene).seat else scene.seat)
-      by_stage true = all-seat told.deliveries (record scene { seat = told.seat })
-      by_stage false = refl
+  -- the seat is the one in which focus and hover are told
+  pub settle-seat : (settle sizes scene).scene.seat ≡ settled_seat (focus_now scene) (hover_now sizes (grab_checked scene)) (grab_checked scene).seat
+  settle-seat = all-seat told.deliveries (record scene { seat = told.seat })
 
   -- lists that follow the rows follow them still
   pub settle-follow : LayersFollow scene.rows scene.layers → LayersFollow (settle sizes scene).scene.rows (settle sizes scene).scene.layers

@@ -168,7 +168,7 @@ stored-sound setup guest delay page offset bytes desk is =
     }
 
 pub steps-keep_sound : StepsKeepSound
-steps-keep_sound setup (item.Bytes g) piece state taken is =
+steps-keep_sound setup (item.Bytes g) piece state is =
     item-sound setup g (count_item state) (take_bytes setup g piece (count_item state)).desk (counted-sound setup state is)
     (record {
       sessions = length-bytes setup g piece (count_item state);
@@ -179,7 +179,7 @@ steps-keep_sound setup (item.Bytes g) piece state taken is =
     })
     (bytes-listed setup g piece (count_item state) (record { apart = is.apart; lists = is.lists }))
     (bytes-limited setup g piece (count_item state) (record { apart = is.apart; lists = is.lists }) is.limits)
-steps-keep_sound setup (item.Closed g) piece state taken is =
+steps-keep_sound setup (item.Closed g) piece state is =
     item-sound setup g (count_item state) (end_session setup g Closing (StreamEnded 0 0) (count_item state)).desk (counted-sound setup state is)
     (record {
       sessions = length-end setup g Closing (StreamEnded 0 0) (count_item state);
@@ -190,7 +190,7 @@ steps-keep_sound setup (item.Closed g) piece state taken is =
     })
     (end-listed setup g Closing (StreamEnded 0 0) (count_item state) (record { apart = is.apart; lists = is.lists }))
     (end-limited setup g Closing (StreamEnded 0 0) (count_item state) is.limits)
-steps-keep_sound setup (item.Lost g) piece state taken is =
+steps-keep_sound setup (item.Lost g) piece state is =
     item-sound setup g (count_item state) (end_session setup g Losing (LinkFailed 0 0) (count_item state)).desk (counted-sound setup state is)
     (record {
       sessions = length-end setup g Losing (LinkFailed 0 0) (count_item state);
@@ -201,8 +201,8 @@ steps-keep_sound setup (item.Lost g) piece state taken is =
     })
     (end-listed setup g Losing (LinkFailed 0 0) (count_item state) (record { apart = is.apart; lists = is.lists }))
     (end-limited setup g Losing (LinkFailed 0 0) (count_item state) is.limits)
-steps-keep_sound setup (item.Store g delay page offset) piece state taken is = stored-sound setup g delay page offset piece (count_item state) (counted-sound setup state is)
-steps-keep_sound setup item.Snap piece state taken is = counted-sound setup state is
-steps-keep_sound setup item.End piece state taken is = counted-sound setup state is
-steps-keep_sound setup item.Idle piece state taken is = is
-steps-keep_sound setup i piece state taken is = event-sound setup i (count_item state) (counted-sound setup state is)
+steps-keep_sound setup (item.Store g delay page offset) piece state is = stored-sound setup g delay page offset piece (count_item state) (counted-sound setup state is)
+steps-keep_sound setup item.Snap piece state is = counted-sound setup state is
+steps-keep_sound setup item.End piece state is = counted-sound setup state is
+steps-keep_sound setup item.Idle piece state is = is
+steps-keep_sound setup i piece state is = event-sound setup i (count_item state) (counted-sound setup state is)

@@ -1,9 +1,10 @@
 -- What is on the desktop, as the user sees and touches it, and what is granted there.
-use Rattle.std.specs.Prelude.{ℕ, List, [], ◌∷◌, ◌++◌, map, Option, Some, None, Bool, true, false, is_some}
+use Rattle.std.specs.Prelude.{ℕ, List, [], ◌∷◌, ◌++◌, map, if◌then◌else◌, Option, Some, None, Bool, true, false, is_some}
 use Rattle.gui_num.specs.declared.Point.{Point}
 use Rattle.desk_laws.specs.declared.row_id.RowId.{RowId}
 use Rattle.desk_laws.specs.declared.cause.Cause.{Cause}
 use Rattle.desk_laws.specs.declared.input.GIn.{GIn}
+use Rattle.desk_laws.specs.Stage.{uses_clipboard}
 use Rattle.desk_laws.specs.Stream.{StreamUnit}
 use Rattle.desk_laws.specs.Rows.{Row, row_at}
 use Rattle.desk_laws.specs.Layers.{Layers, no_layers, followed}
@@ -130,11 +131,15 @@ abbrev pub pastes : RowId → Option Content → Scene → SceneOutcome
 pastes id None scene = unchanged scene
 pastes id (Some content) scene = grant id (ClipGive id.window) content.bytes (with_clip (wiped scene.clip) scene)
 
+-- the question for the clipboard of a row's guest
+abbrev pub asks : RowId → Scene → SceneOutcome
+asks id scene = grant id (ClipAsk id.window) [] (with_clip (ask id.guest scene.clip) scene)
+
 -- one delivery
 abbrev pub deliver : Delivery → Scene → SceneOutcome
 deliver (Grants id input) scene = grant id input [] scene
-deliver (Asks id) scene = grant id (ClipAsk id.window) [] (with_clip (ask id.guest scene.clip) scene)
-deliver (Pastes id) scene = pastes id scene.clip.content scene
+deliver (Asks id) scene = if uses_clipboard then asks id scene else unchanged scene
+deliver (Pastes id) scene = if uses_clipboard then pastes id scene.clip.content scene else unchanged scene
 
 -- deliveries in their order
 abbrev pub deliver_all : List Delivery → Scene → SceneOutcome

@@ -1,14 +1,13 @@
 -- Focus and hover, and what is granted where they changed.
-use Rattle.std.specs.Prelude.{List, [], ◌∷◌, ◌++◌, Option, Some, None, Bool, true, false, if◌then◌else◌, option_map, pos, ◌-ℤ◌}
+use Rattle.std.specs.Prelude.{◌≡◌, List, [], ◌∷◌, ◌++◌, Option, Some, None, Bool, true, false, if◌then◌else◌, option_map, pos, ◌-ℤ◌}
 use Rattle.gui_num.specs.declared.Point.{Point}
 use Rattle.gui_num.specs.Rects.{has}
 use Rattle.desk_laws.specs.declared.row_id.RowId.{RowId}
 use Rattle.desk_laws.specs.declared.input.GIn.TheVariants.{Crossing, Focus, Keymap}
 use Rattle.desk_laws.specs.Sizes.{Sizes}
-use Rattle.desk_laws.specs.Stage.{tells_focus}
 use Rattle.desk_laws.specs.Rows.{Row, id_of, same_row, row_at, is_shown}
 use Rattle.desk_laws.specs.Layers.{topmost, focus_of}
-use Rattle.desk_laws.specs.Scene.{Scene, SceneOutcome, Seat, Grab, Delivery, Grants, InputOutcome, with_deliveries, perform, unchanged}
+use Rattle.desk_laws.specs.Scene.{Scene, SceneOutcome, Seat, Grab, Delivery, Grants, InputOutcome, with_deliveries, perform}
 
 -- ---- focus and hover
 
@@ -105,4 +104,10 @@ settled sizes scene =
 
 -- a grab whose row isn't shown ends; then focus and hover are told
 abbrev pub settle : Sizes → Scene → SceneOutcome
-settle sizes scene = if tells_focus then perform (settled sizes (grab_checked scene)) scene else unchanged scene
+settle sizes scene = perform (settled sizes (grab_checked scene)) scene
+
+-- focus and hover are those that were last told, and a row that is grabbed is shown
+pub record IsSettled (sizes : Sizes) (scene : Scene) : Type 0 where
+  pub grab : grab_shown scene.rows scene.seat.grab ≡ scene.seat.grab
+  pub focus : scene.seat.focus ≡ focus_now scene
+  pub hover : scene.seat.hover ≡ hover_now sizes scene

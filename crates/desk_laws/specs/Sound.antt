@@ -1,10 +1,8 @@
 -- What holds of every state that a run reaches.
 use Rattle.std.specs.Prelude.{◌≡◌, ℕ, ◌<◌, true, List, [], length, map, Some}
-use Rattle.std.specs.List.{All}
 use Rattle.desk_laws.specs.declared.setup.Setup.{Setup}
 use Rattle.desk_laws.specs.declared.cause.Cause.{Cause}
 use Rattle.desk_laws.specs.declared.item.Item.{Item}
-use Rattle.desk_laws.specs.Stage.{takes_item}
 use Rattle.desk_laws.specs.Items.{FedItem}
 use Rattle.desk_laws.specs.Rows.{id_of, mine}
 use Rattle.desk_laws.specs.Sizes.{sizes_of}
@@ -26,12 +24,12 @@ pub record IsSound (setup : Setup) (state : DeskState) : Type 0 where
 abbrev pub OpeningIsSound : Type 0
 OpeningIsSound = (setup : Setup) → IsSound setup (opening setup)
 
--- each item that there is so far keeps a state sound
+-- each item keeps a state sound
 abbrev pub StepsKeepSound : Type 0
 StepsKeepSound =
-    (setup : Setup) (i : Item) (piece : List ℕ) (state : DeskState) → takes_item i ≡ true → IsSound setup state → IsSound setup (step setup i piece state).desk
+    (setup : Setup) (i : Item) (piece : List ℕ) (state : DeskState) → IsSound setup state → IsSound setup (step setup i piece state).desk
 
--- every run of such items leads to a sound state
+-- every run leads to a sound state
 abbrev pub RunsAreSound : Type 0
 RunsAreSound =
-    (setup : Setup) (items : List FedItem) → All (λ i. takes_item i.item ≡ true) items → IsSound setup (run setup items (opening setup)).desk
+    (setup : Setup) (items : List FedItem) → IsSound setup (run setup items (opening setup)).desk

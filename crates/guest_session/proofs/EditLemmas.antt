@@ -4,6 +4,7 @@ use Rattle.std.specs.List.{list_all}
 use Rattle.std.proofs.lemmas.Bool.{and_parts, and_from, eq-eqb, lt-ltb}
 use Rattle.gui_num.specs.declared.Rect.{Rect}
 use Rattle.desk_laws.specs.Rows.{Row, content_at, contents_at_size}
+use Rattle.desk_laws.specs.Ranges.{IsPlace}
 use Rattle.tile_store.specs.Tile.{Tile}
 use Rattle.tile_store.specs.Squares.{has_pixel}
 use Rattle.tile_store.specs.Held.{colour_at, cut_tile, is_left, swept}
@@ -13,7 +14,6 @@ use Rattle.window_table.specs.declared.pane.Pane.{Pane}
 use Rattle.window_table.specs.Entries.{Entry, TableView, AreApart, entry_at, updated, with_pane}
 use Rattle.guest_session.specs.declared.edit.Edit.{Edit}
 use Rattle.guest_session.specs.declared.edit.Edit.TheVariants.{Map, Unmap, Configure, Title, Dock, Hints, Flags, Fill, Class, Cursor}
-use Rattle.guest_session.specs.SessionView.{IsPlace}
 use Rattle.guest_session.specs.Edits.{FitsEdit, EditsPixels, pane_edited, row_edited, tiles_edited}
 use Rattle.guest_session.specs.RowsView.{AreKept, HasFitDump, contents_in, StaysInside, is_owned, own_row}
 use Rattle.guest_session.proofs.GridLemmas.{grid-same}

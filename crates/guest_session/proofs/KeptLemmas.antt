@@ -7,6 +7,7 @@ use Rattle.std.proofs.lemmas.List.Elements.{All-nil, All-cons, All-head, All-tai
 use Rattle.gui_num.specs.declared.Rect.{Rect}
 use Rattle.desk_laws.specs.Rows.{Row, row_with, span, content_of, content_at}
 use Rattle.desk_laws.specs.Effects.{refs_besides, Added, Replaced, Removed, changed, created}
+use Rattle.desk_laws.specs.Ranges.{IsPlace}
 use Rattle.tile_store.specs.Tile.{Tile}
 use Rattle.tile_store.specs.Squares.{has_pixel}
 use Rattle.tile_store.specs.Held.{TilesView, colour_at, dropped}
@@ -14,7 +15,6 @@ use Rattle.tile_store.specs.Contents.{Empties, colour_or}
 use Rattle.tile_store.proofs.RiseLemmas.{all-filter}
 use Rattle.window_table.specs.declared.pane.Pane.{Pane}
 use Rattle.window_table.specs.Entries.{Entry, TableView, AreApart, entry_at, entry_with, plain_rows, changed_at, updated, besides_slot, removed, forgets_window, new_entry}
-use Rattle.guest_session.specs.SessionView.{IsPlace}
 use Rattle.guest_session.specs.Panes.{ShowsRow}
 use Rattle.guest_session.specs.Reading.{content_in}
 use Rattle.guest_session.specs.RowsView.{RowsView, AreKept, HasFitDump, StaysInside, contents_in, is_owned, own_row, own_rows, viewed, with_change, with_row}

@@ -16,7 +16,7 @@ use Rattle.desk_laws.specs.declared.cause.Cause.TheVariants.{BadRange, BadLength
 use Rattle.desk_laws.specs.Sizes.{Sizes}
 use Rattle.desk_laws.specs.Frames.{PortState}
 use Rattle.desk_laws.specs.Rows.{Row, row_with}
-use Rattle.desk_laws.specs.Ranges.{rect_in_range}
+use Rattle.desk_laws.specs.Ranges.{rect_in_range, IsPlace}
 use Rattle.desk_laws.specs.Effects.{Change, Replaced, Removed, Added, Verdict, Ends, Goes, unless, first_of_causes, high_bit, out_of, wrong_count, pages_for, clipped, reads, Greets, Reads, range_fault, unknown, exists_already, too_many, bad_ref, over_budget, refs_besides, in_range_verdict, message_to, message_to_window, message_verdict, isnt_zero, id_if, mapped_row, configured_row, flags_after, tells_move, acks, created}
 use Rattle.desk_laws.specs.Scene.{Post}
 use Rattle.desk_laws.specs.Checks.{first_cause, rows_fault}
@@ -25,7 +25,6 @@ use Rattle.message_checks.specs.declared.command.Command.{Command}
 use Rattle.message_checks.specs.declared.command.Command.TheVariants.{Create, Destroy, Map, Unmap, Configure, Shmimage, Clip, Name, Dock, Hints, Flags, Class, Dump, Cursor}
 use Rattle.message_checks.specs.Commands.{IsCommandOf}
 use Rattle.guest_session.specs.declared.edit.Edit.TheVariants as edit
-use Rattle.guest_session.specs.SessionView.{IsPlace}
 use Rattle.guest_session.specs.RowsView.{RowsView, FitsDump}
 use Rattle.guest_session.specs.Edits.{row_edited}
 use Rattle.guest_session.specs.Placing.{flagged_row, tells_full, tells_row}

@@ -10,12 +10,12 @@ use Rattle.desk_laws.specs.Rows.{Row, DumpOf, grid, row_with}
 use Rattle.desk_laws.specs.Tiles.{tiles_in_use, tiles_needed}
 use Rattle.desk_laws.specs.Frames.{PortState, load_all}
 use Rattle.desk_laws.specs.Effects.{Area, Verdict, Ends, Reads, points, clipped, drawn_row, frame_places, reads}
+use Rattle.desk_laws.specs.Ranges.{IsPlace}
 use Rattle.tile_store.specs.Tile.{Tile}
 use Rattle.tile_store.specs.Held.{TilesView, are_whole, missing, opened, rises, tiles_along, tiles_met}
 use Rattle.tile_store.specs.Contents.{tiles_coloured}
 use Rattle.window_table.specs.declared.pane.DumpSize.{DumpSize}
 use Rattle.window_table.specs.Entries.{Entry, TableView, AreApart, entry_at, updated, size_of_dump}
-use Rattle.guest_session.specs.SessionView.{IsPlace}
 use Rattle.guest_session.specs.RowsView.{RowsView, AreKept, HasFitDump, StaysInside, own_row, own_rows, viewed, with_row}
 use Rattle.guest_session.specs.Areas.{Covers, dump_of, dump_at}
 use Rattle.guest_session.specs.Reading.{ReadsAs, area_loads, drawn_by, rect_of}

@@ -12,9 +12,10 @@ use Rattle.desk_laws.specs.Rows.{Row, id_of, row_with}
 use Rattle.desk_laws.specs.Layers.{is_in, are_apart}
 use Rattle.desk_laws.specs.Effects.{refs_of, refs_besides}
 use Rattle.desk_laws.specs.Checks.{LooksSame}
+use Rattle.desk_laws.specs.Ranges.{IsPlace}
 use Rattle.tile_store.specs.Tile.{Tile}
 use Rattle.window_table.specs.Entries.{Entry, AreApart, entry_at, entry_with, row_of, plain_rows}
-use Rattle.guest_session.specs.SessionView.{AreRows, IsPlace}
+use Rattle.guest_session.specs.SessionView.{AreRows}
 use Rattle.guest_session.specs.RowsView.{own_row, own_rows}
 
 -- ---- what is found

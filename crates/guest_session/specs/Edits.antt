@@ -4,13 +4,13 @@ use Rattle.gui_num.specs.declared.Rect.{Rect}
 use Rattle.desk_laws.specs.Rows.{Row, placed_at}
 use Rattle.gui_wire.specs.declared.limits.TheConstants.{WINDOW_FLAG_MINIMIZE}
 use Rattle.desk_laws.specs.Effects.{text_of, flags_without, unmapped_row}
+use Rattle.desk_laws.specs.Ranges.{IsPlace}
 use Rattle.window_table.specs.declared.pane.Pane.{Pane}
 use Rattle.tile_store.specs.Tile.{Tile}
 use Rattle.tile_store.specs.Held.{swept}
 use Rattle.tile_store.specs.Contents.{KeepsAll, CutsAway}
 use Rattle.guest_session.specs.declared.edit.Edit.{Edit}
 use Rattle.guest_session.specs.declared.edit.Edit.TheVariants.{Map, Unmap, Configure, Title, Dock, Hints, Flags, Fill, Class, Cursor}
-use Rattle.guest_session.specs.SessionView.{IsPlace}
 
 -- a place with its corner elsewhere
 abbrev pub moved_to : ℤ → ℤ → Rect → Rect

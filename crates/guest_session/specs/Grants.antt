@@ -7,8 +7,8 @@ use Rattle.desk_laws.specs.declared.input.GIn.{GIn}
 use Rattle.desk_laws.specs.declared.input.GIn.TheVariants.{Place}
 use Rattle.desk_laws.specs.Grants.{Granted, granted, window_of}
 use Rattle.desk_laws.specs.Scene.{Post, replies}
+use Rattle.desk_laws.specs.Ranges.{IsPlace}
 use Rattle.io_ports.specs.Posts.{Leads}
-use Rattle.guest_session.specs.SessionView.{IsPlace}
 use Rattle.guest_session.specs.RowsView.{RowsView}
 
 -- the place that is granted, if one is, is in range

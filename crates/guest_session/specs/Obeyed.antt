@@ -9,12 +9,12 @@ use Rattle.desk_laws.specs.Rows.{Row, row_with}
 use Rattle.desk_laws.specs.Frames.{PortState}
 use Rattle.desk_laws.specs.Effects.{Change, Same, Added, Replaced, Removed, Area, clipped, reads, Verdict, Ends, Greets, Goes, Reads, created, id_if, isnt_zero, mapped_row, configured_row, flags_after, tells_move, acks, refs_besides}
 use Rattle.desk_laws.specs.Scene.{Post, replies}
+use Rattle.desk_laws.specs.Ranges.{IsPlace}
 use Rattle.io_ports.specs.Posts.{Leads}
 use Rattle.message_checks.specs.declared.command.Command.{Command}
 use Rattle.message_checks.specs.declared.command.Command.TheVariants.{Create, Destroy, Map, Unmap, Configure, Shmimage, Clip, Name, Dock, Hints, Flags, Class, Dump, Cursor}
 use Rattle.guest_session.specs.declared.edit.Edit.{Edit}
 use Rattle.guest_session.specs.declared.edit.Edit.TheVariants as edit
-use Rattle.guest_session.specs.SessionView.{IsPlace}
 use Rattle.guest_session.specs.RowsView.{RowsView, FitsDump, with_change, with_dump}
 use Rattle.guest_session.specs.Reading.{ReadsArea, ReadsAs}
 use Rattle.guest_session.specs.Edits.{row_edited}

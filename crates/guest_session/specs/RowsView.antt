@@ -5,11 +5,11 @@ use Rattle.gui_wire.specs.declared.limits.TheConstants.{MAX_WINDOW_HEIGHT, MAX_W
 use Rattle.desk_laws.specs.declared.limits.TheConstants.{MAX_PAGES}
 use Rattle.desk_laws.specs.Rows.{Row, DumpOf, grid}
 use Rattle.desk_laws.specs.Effects.{Change, Replaced, changed, pages_for}
+use Rattle.desk_laws.specs.Ranges.{IsPlace}
 use Rattle.window_table.specs.Entries.{Entry, TableView, entry_at, row_of}
 use Rattle.tile_store.specs.Tile.{Tile}
 use Rattle.tile_store.specs.Squares.{has_pixel}
 use Rattle.tile_store.specs.Held.{TilesView, colour_at}
-use Rattle.guest_session.specs.SessionView.{IsPlace}
 
 -- a guest's number, how many pages its frames have, how many tiles its windows may take, and its rows
 -- in the order of their CREATE

@@ -1,13 +1,12 @@
 -- What a guest's session is seen as.
-use Rattle.std.specs.Prelude.{◌≡◌, ℕ, ◌≤◌, true, List, [], length, map, Option, Some, None, pos, negsuc, ◌≤ℤ◌}
+use Rattle.std.specs.Prelude.{◌≡◌, ℕ, ◌≤◌, true, List, [], length, map, Option, Some, None}
 use Rattle.std.specs.List.{All}
-use Rattle.gui_num.specs.declared.Rect.{Rect}
-use Rattle.gui_wire.specs.declared.limits.TheConstants.{MAX_WINDOW_HEIGHT, MAX_WINDOW_WIDTH}
 use Rattle.desk_laws.specs.declared.limits.TheConstants.{MAX_WINDOWS}
 use Rattle.desk_laws.specs.declared.cause.Cause.{Cause}
 use Rattle.desk_laws.specs.Sizes.{Sizes}
 use Rattle.desk_laws.specs.Rows.{Row, id_of}
 use Rattle.desk_laws.specs.Layers.{are_apart}
+use Rattle.desk_laws.specs.Ranges.{IsPlace}
 use Rattle.in_stream.specs.Received.{Received}
 
 -- a session: its guest, the numbers of the setup, the bytes that were taken and not yet dropped, the
@@ -19,17 +18,6 @@ pub record SessionView : Type 0 where
   pub rows : List Row
   pub minor : ℕ
   pub ended : Option Cause
-
--- a place in range: from -32768 to 32767, and a size from 1 by 1 to that of the greatest window
-pub record IsPlace (place : Rect) : Type 0 where
-  pub x_low : negsuc 32767 ≤ℤ place.x
-  pub x_high : place.x ≤ℤ pos 32767
-  pub y_low : negsuc 32767 ≤ℤ place.y
-  pub y_high : place.y ≤ℤ pos 32767
-  pub w_low : 1 ≤ place.w
-  pub w_high : place.w ≤ MAX_WINDOW_WIDTH
-  pub h_low : 1 ≤ place.h
-  pub h_high : place.h ≤ MAX_WINDOW_HEIGHT
 
 -- rows of this guest, no more than it may have windows, no two of one window, their places in range
 pub record AreRows (guest : ℕ) (rows : List Row) : Type 0 where

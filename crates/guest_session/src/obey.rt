@@ -2,8 +2,8 @@
 ghost use Rattle.std.specs.Prelude.{◌≡◌, ℕ, ◌<◌, [], ◌∷◌, None, length};
 ghost use Rattle.desk_laws.specs.Stream.{Whole, head_fault};
 ghost use Rattle.desk_laws.specs.Effects.{configured_row, flags_after, mapped_row, tells_move, verdict};
+ghost use Rattle.desk_laws.specs.Ranges.{IsPlace};
 ghost use Rattle.frame_pool.specs.Ports.{ChangesFrames};
-ghost use Rattle.guest_session.specs.SessionView.{IsPlace};
 ghost use Rattle.guest_session.specs.Desk.{FitDesk, sizes_in};
 ghost use Rattle.guest_session.specs.Placing.{flagged_row, tells_full, tells_row};
 ghost use Rattle.guest_session.specs.Obeyed.{AnsweredFor, Carries, CanObey, Changes, Obeyed};

@@ -3,8 +3,8 @@ ghost use Rattle.std.specs.Prelude.{◌≡◌, ◌+◌, ◌*◌, ◌<◌, IsTrue
 ghost use Rattle.desk_laws.specs.Rows.{Row};
 ghost use Rattle.desk_laws.specs.Override.{effective, taken_besides};
 ghost use Rattle.desk_laws.specs.Effects.{flags_after, goes_full, whole_desktop};
+ghost use Rattle.desk_laws.specs.Ranges.{IsPlace};
 ghost use Rattle.redirect_limits.specs.Limits.{placed_of};
-ghost use Rattle.guest_session.specs.SessionView.{IsPlace};
 ghost use Rattle.guest_session.specs.Desk.{FitDesk, sizes_in};
 ghost use Rattle.guest_session.specs.RowsView.{RowsView};
 ghost use Rattle.guest_session.specs.Placing.{configured_to, standing_of};

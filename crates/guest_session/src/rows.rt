@@ -9,9 +9,10 @@ ghost use Rattle.desk_laws.specs.Effects.{Added, Removed, clipped, created, id_i
 ghost use Rattle.desk_laws.specs.Checks.{first_cause};
 ghost use Rattle.gui_wire.specs.declared.limits.TheConstants.{MAX_WINDOW_HEIGHT, MAX_WINDOW_WIDTH};
 ghost use Rattle.desk_laws.specs.declared.limits.TheConstants.{MAX_PAGES, MAX_WINDOWS};
+ghost use Rattle.desk_laws.specs.Ranges.{IsPlace};
 ghost use Rattle.message_checks.specs.Commands.{IsCommandOf};
 ghost use Rattle.frame_pool.specs.Ports.{ChangesFrames};
-ghost use Rattle.guest_session.specs.SessionView.{AreRows, IsPlace};
+ghost use Rattle.guest_session.specs.SessionView.{AreRows};
 ghost use Rattle.guest_session.specs.Panes.{ShowsRow};
 ghost use Rattle.tile_store.specs.Held.{colour_at, swept};
 ghost use Rattle.tile_store.specs.Contents.{CutsAway, colour_or};

@@ -23,17 +23,6 @@ spot_of border row = record { place = row.place; outer = outer border row; shown
 abbrev pub Shows : ℕ → (RowId → Option Spot) → Scene → Type 0
 Shows border spots scene = (id : RowId) → spots id ≡ option_map (spot_of border) (row_at id scene.rows)
 
--- the places and sizes that windows have
-pub record IsPlace (place : Rect) : Type 0 where
-  pub x_low : negsuc 32767 ≤ℤ place.x
-  pub x_high : place.x ≤ℤ pos 32767
-  pub y_low : negsuc 32767 ≤ℤ place.y
-  pub y_high : place.y ≤ℤ pos 32767
-  pub w_low : 1 ≤ place.w
-  pub w_high : place.w ≤ MAX_WINDOW_WIDTH
-  pub h_low : 1 ≤ place.h
-  pub h_high : place.h ≤ MAX_WINDOW_HEIGHT
-
 -- ---- what is asked of a row that may not be there
 
 abbrev pub is_shown_at : Option Spot → Bool

@@ -2,7 +2,8 @@
 ghost use Rattle.std.specs.Prelude.{◌≡◌, Option, IfSome, option_map};
 ghost use Rattle.gui_num.specs.Rects.{IsFit};
 ghost use Rattle.desk_laws.specs.declared.row_id.RowId.{RowId};
-ghost use Rattle.input_router.specs.Spots.{Spot, IsPlace, is_shown_at, is_over_at};
+ghost use Rattle.desk_laws.specs.Ranges.{IsPlace};
+ghost use Rattle.input_router.specs.Spots.{Spot, is_shown_at, is_over_at};
 
 use desk_laws::RowId;
 use gui_num::Rect;

@@ -4,13 +4,14 @@ ghost use Rattle.desk_laws.specs.declared.setup.Setup.{Setup};
 ghost use Rattle.desk_laws.specs.Events.{grabbing, with_pointer, on_desktop, move, press, press_by, press_owner, press_row, release_by};
 ghost use Rattle.desk_laws.specs.Layers.{is_in, raised, topmost};
 ghost use Rattle.desk_laws.specs.Scene.{Scene};
+ghost use Rattle.desk_laws.specs.Ranges.{IsPlace};
 ghost use Rattle.input_router.specs.Deliveries.{Leads};
 ghost use Rattle.input_router.specs.Pointed.{motion_in, moves_in, button_in, more_held};
 ghost use Rattle.input_router.specs.Presents.{Presents, Carries};
 ghost use Rattle.input_router.specs.Routes.{Routes};
 ghost use Rattle.input_router.specs.SeatView.{IsPixel};
 ghost use Rattle.input_router.specs.Seated.{from_spot, hover_of};
-ghost use Rattle.input_router.specs.Spots.{IsPlace, Shows, has_content, is_over_at};
+ghost use Rattle.input_router.specs.Spots.{Shows, has_content, is_over_at};
 
 use crate::deliver::Deliver;
 use crate::places::Places;

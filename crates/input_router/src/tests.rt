@@ -2,9 +2,9 @@
 ghost use Rattle.std.specs.Prelude.{Some, None, if◌then◌else◌};
 ghost use Rattle.gui_num.specs.Rects.{grown};
 ghost use Rattle.desk_laws.specs.Rows.{same_row};
+ghost use Rattle.desk_laws.specs.Ranges.{IsPlace};
 ghost use Rattle.input_router.specs.Routes.{HasPixel};
 ghost use Rattle.input_router.specs.SeatView.{IsPixel};
-ghost use Rattle.input_router.specs.Spots.{IsPlace};
 
 use super::*;
 use desk_laws::{GIn, Item, RowId};

@@ -10,7 +10,7 @@ use Rattle.byteorder.specs.Numbers.{little_number-reads_back}
 use Rattle.gui_wire.specs.Words.{word, word_at, unsigned}
 use Rattle.gui_wire.proofs.WordLemmas.{word_at-word}
 use Rattle.desk_laws.specs.Rules.{within}
-use Rattle.desk_laws.specs.Items.{IsInRange}
+use Rattle.desk_laws.specs.Items.{FitsItem}
 use Rattle.desk_laws.specs.declared.item.Item.{Item}
 use Rattle.desk_laws.specs.declared.item.Item.TheVariants.{Bytes, Closed, Store, Key, Move, Press, Close, Next, Restore, MoveTo, SizeTo, Snap, End, Lost, Idle}
 use Rattle.record_format.specs.ItemSpellings.{half, signed_word, item_spelling, HasWidths, FitsRecord}
@@ -121,7 +121,7 @@ fields_are kind (Lost guest) len widths is = ap fields_len (sym is)
 fields_are kind Idle len widths is = absurd widths
 
 -- an item that is in range has at most the longest piece
-pub piece_small : (guests pages : ℕ) (item : Item) (len : ℕ) → IsInRange guests pages item len → len ≤ 65536
+pub piece_small : (guests pages : ℕ) (item : Item) (len : ℕ) → FitsItem guests pages item len → len ≤ 65536
 piece_small guests pages (Bytes guest) len range = range.1.most
 piece_small guests pages (Closed guest) len range = omega (arith, range.1)
 piece_small guests pages (Store guest delay page offset) len range = omega (arith, range.1.within)

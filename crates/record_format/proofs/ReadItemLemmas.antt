@@ -5,7 +5,7 @@ use Rattle.std.specs.Prelude.{slice_index, nat_lt, nat_le, ◌&&◌, ◌==◌, i
 use Rattle.gui_wire.specs.Words.{word}
 use Rattle.gui_wire.proofs.WordLemmas.{AreBytes}
 use Rattle.desk_laws.specs.Rules.{within}
-use Rattle.desk_laws.specs.Items.{IsInRange}
+use Rattle.desk_laws.specs.Items.{FitsItem}
 use Rattle.desk_laws.specs.declared.item.Item.{Item}
 use Rattle.desk_laws.specs.declared.item.Item.TheVariants.{Bytes, Closed, Store, Key, Move, Press, Close, Next, Restore, MoveTo, SizeTo, Snap, End, Lost}
 use Rattle.record_format.specs.Config.{number_at}
@@ -37,14 +37,14 @@ if_some false item len fact holds = tt
 
 -- the fields of each kind, where they are right, are in their ranges
 
-piece_fits : (guests pages guest size : ℕ) → (nat_lt guest guests && within 1 65536 size) ≡ true → IsInRange guests pages (Bytes guest) size
+piece_fits : (guests pages guest size : ℕ) → (nat_lt guest guests && within 1 65536 size) ≡ true → FitsItem guests pages (Bytes guest) size
 piece_fits guests pages guest size right =
     (grind (arith, nat_tests, right), record { some = grind (arith, nat_tests, right); most = grind (arith, nat_tests, right) })
 
 guest_fits : (guests guest : ℕ) → nat_lt guest guests ≡ true → guest < guests
 guest_fits guests guest right = grind (arith, nat_tests, right)
 
-store_fits : (guests pages guest delay page offset size : ℕ) → (nat_lt guest guests && is_change pages page offset size) ≡ true → IsInRange guests pages (Store guest delay page offset) size
+store_fits : (guests pages guest delay page offset size : ℕ) → (nat_lt guest guests && is_change pages page offset size) ≡ true → FitsItem guests pages (Store guest delay page offset) size
 store_fits guests pages guest delay page offset size right = (
   grind (arith, nat_tests, right),
   record {
@@ -56,13 +56,13 @@ store_fits guests pages guest delay page offset size right = (
   },
 )
 
-key_fits : (guests pages down code state : ℕ) → (nat_le down 1 && nat_le state 8191) ≡ true → IsInRange guests pages (Key (down == 1) code state) 0
+key_fits : (guests pages down code state : ℕ) → (nat_le down 1 && nat_le state 8191) ≡ true → FitsItem guests pages (Key (down == 1) code state) 0
 key_fits guests pages down code state right = (grind (arith, nat_tests, right), refl)
 
-move_fits : (guests pages : ℕ) (x y : ℤ) (state : ℕ) → nat_le state 8191 ≡ true → IsInRange guests pages (Move x y state) 0
+move_fits : (guests pages : ℕ) (x y : ℤ) (state : ℕ) → nat_le state 8191 ≡ true → FitsItem guests pages (Move x y state) 0
 move_fits guests pages x y state right = (grind (arith, nat_tests, right), refl)
 
-press_fits : (guests pages down button state : ℕ) → (nat_le down 1 && (within 1 15 button && nat_le state 8191)) ≡ true → IsInRange guests pages (Press (down == 1) button state) 0
+press_fits : (guests pages down button state : ℕ) → (nat_le down 1 && (within 1 15 button && nat_le state 8191)) ≡ true → FitsItem guests pages (Press (down == 1) button state) 0
 press_fits guests pages down button state right = ((grind (arith, nat_tests, right), grind (arith, nat_tests, right)), (grind (arith, nat_tests, right), refl))
 
 piece_spelled : (guests pages : ℕ) (bytes : List ℕ) → AreBytes bytes → 6 ≤ length bytes → slice_index bytes 0 ≡ 2 → IfSome (piece_read guests bytes) (IsSpelledBy guests pages bytes)
@@ -239,7 +239,7 @@ item_spelled guests pages bytes h has =
 
 -- what is read is in its ranges, whatever the bytes are
 abbrev pub RangesHold : ℕ → ℕ → Item × ℕ → Type 0
-RangesHold guests pages found = IsInRange guests pages found.0 found.1
+RangesHold guests pages found = FitsItem guests pages found.0 found.1
 
 command_ranged : (guests pages : ℕ) (bytes : List ℕ) → IfSome (command_read bytes) (RangesHold guests pages)
 command_ranged guests pages bytes =

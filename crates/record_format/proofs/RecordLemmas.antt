@@ -16,7 +16,7 @@ use Rattle.desk_laws.specs.declared.item.Item.TheVariants as items
 use Rattle.desk_laws.specs.Rules.{within, first_broken}
 use Rattle.desk_laws.specs.Frames.{counted}
 use Rattle.desk_laws.specs.declared.item.Item.{Item}
-use Rattle.desk_laws.specs.Items.{FedItem, FitsItem, IsInRange}
+use Rattle.desk_laws.specs.Items.{FedItem, FitsItem}
 use Rattle.gui_wire.proofs.WordLemmas.{AreBytes, AreBytes-drop}
 use Rattle.record_format.specs.Config.{Wrong, fault, config_of, config_len, config_spelling}
 use Rattle.record_format.specs.ItemSpellings.{fed_spelling, items_spelling}
@@ -152,8 +152,8 @@ found_fits guests pages size bytes given is =
     let parts = item_parts guests pages bytes given size is in
     let behind = drop (1 + parts.n) bytes in
     let len : length given.piece ≡ parts.len = ap length parts.piece ∙ omega (arith, parts.enough, length-take parts.len behind) in
-    let range : IsInRange guests pages given.item parts.len = subst (λ (r : Option (Item × ℕ)). IfSome r (RangesHold guests pages)) parts.read (item_ranged guests pages (take (1 + parts.n) bytes)) in
-    record { there = parts.there; in_range = subst (IsInRange guests pages given.item) (sym len) range }
+    let range : FitsItem guests pages given.item parts.len = subst (λ (r : Option (Item × ℕ)). IfSome r (RangesHold guests pages)) parts.read (item_ranged guests pages (take (1 + parts.n) bytes)) in
+    record { there = parts.there; in_range = subst (FitsItem guests pages given.item) (sym len) range }
 
 -- so of all items of a record
 abbrev AllFit : ℕ → ℕ → List FedItem → Type 0
@@ -204,7 +204,7 @@ record ItemsWere (guests pages at : ℕ) (bytes : List ℕ) (found : Items) : Ty
   behind : StandsBehind guests pages (counted (at + length (items_spelling found.each))) found.ending rest
 
 -- only End ends
-end_was : (guests pages : ℕ) (item : Item) (piece : List ℕ) → is_end item ≡ true → IsInRange guests pages item (length piece) → ◌≡◌ {A = FedItem} (record { item = item; piece = piece }) (alone items.End)
+end_was : (guests pages : ℕ) (item : Item) (piece : List ℕ) → is_end item ≡ true → FitsItem guests pages item (length piece) → ◌≡◌ {A = FedItem} (record { item = item; piece = piece }) (alone items.End)
 end_was guests pages items.End [] is range = refl
 end_was guests pages items.End (b ∷ piece) is range = absurd (omega arith)
 end_was guests pages item piece is range = absurd (cc)

@@ -7,7 +7,7 @@ use Rattle.byteorder.specs.Endian.{little_bytes}
 use Rattle.gui_wire.specs.Words.{word, unsigned}
 use Rattle.desk_laws.specs.declared.item.Item.{Item}
 use Rattle.desk_laws.specs.declared.item.Item.TheVariants.{Bytes, Closed, Store, Key, Move, Press, Close, Next, Restore, MoveTo, SizeTo, Snap, End, Lost, Idle}
-use Rattle.desk_laws.specs.Items.{FedItem, IsInRange}
+use Rattle.desk_laws.specs.Items.{FedItem, FitsItem}
 
 -- a number of 16 bits
 abbrev pub half : ℕ → List ℕ
@@ -65,4 +65,4 @@ HasWidths item = Unit {0}
 -- an item that a record of so many guests and pages can have, with so many bytes
 pub record FitsRecord (guests pages : ℕ) (item : Item) (len : ℕ) : Type 0 where
   pub widths : HasWidths item
-  pub range : IsInRange guests pages item len
+  pub range : FitsItem guests pages item len

@@ -1,6 +1,6 @@
 // Spells items: the kind byte and the fixed fields of each.
 ghost use Rattle.std.specs.Prelude.{◌≡◌, ◌≤◌, ◌++◌, length, drop};
-ghost use Rattle.desk_laws.specs.Items.{IsInRange};
+ghost use Rattle.desk_laws.specs.Items.{FitsItem};
 ghost use Rattle.record_format.specs.ItemSpellings.{flag, command, item_spelling};
 
 use desk_laws::{Item, MAX_GUESTS, MAX_PAGES};
@@ -81,7 +81,7 @@ fn command_bytes(code: u8, a: i32, b: i32) -> [u8; 10]
 /// isn't Idle, which no record has.
 pub fn spell_item(item: &Item, piece_len: usize, out: &mut [u8]) -> usize
     requires spelled { item.now ≡ Item.Idle → ⊥ }
-    requires range { IsInRange MAX_GUESTS MAX_PAGES item.now piece_len }
+    requires range { FitsItem MAX_GUESTS MAX_PAGES item.now piece_len }
     requires room { length (item_spelling item.now piece_len) ≤ length out.old }
     ensures out { out.new ≡ item_spelling item.now piece_len ++ drop (length (item_spelling item.now piece_len)) out.old }
     ensures len { result ≡ length (item_spelling item.now piece_len) }

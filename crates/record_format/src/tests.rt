@@ -1,6 +1,6 @@
 // Items spelled by hand, and read.
 ghost use Rattle.std.specs.Prelude.{◌≡◌, ◌≤◌, length};
-ghost use Rattle.desk_laws.specs.Items.{IsInRange};
+ghost use Rattle.desk_laws.specs.Items.{FitsItem};
 ghost use Rattle.record_format.specs.ItemSpellings.{item_spelling};
 ghost use Rattle.record_format.specs.ItemFields.{HasFields};
 
@@ -37,7 +37,7 @@ fn small_desktop(alloc: Global) -> Result<Setup, Fail> {
 // An item and its spelling.
 fn goes(rt: &impl Abort, setup: &Setup, item: Item, len: usize, spelled: &[u8])
     requires there { item ≡ Item.Idle → ⊥ }
-    requires range { IsInRange MAX_GUESTS MAX_PAGES item len }
+    requires range { FitsItem MAX_GUESTS MAX_PAGES item len }
     requires room { length (item_spelling item len) ≤ 16 }
     requires fields { HasFields spelled.now }
 {

@@ -10,7 +10,7 @@ use Rattle.io_ports.specs.Content.{Told}
 use Rattle.io_ports.specs.Feeds.{Answer, answer_of, Coming, ComesNext, end_of_items}
 use Rattle.desk_laws.specs.declared.item.Item.{Item}
 use Rattle.desk_laws.specs.declared.item.Item.TheVariants as items
-use Rattle.desk_laws.specs.Items.{FedItem, FitsItem, IsInRange}
+use Rattle.desk_laws.specs.Items.{FedItem, FitsItem}
 use Rattle.desk_laws.specs.Frames.{counted}
 use Rattle.replay_driver.specs.declared.replay_feed.FeedState.{FeedState}
 use Rattle.replay_driver.specs.declared.replay_feed.FeedState.TheVariants as states
@@ -65,14 +65,14 @@ failed_is (Ok next) room is = absurd (cc)
 failed_is (Err f) room is = let same : f ≡ feeds.Failed = cc in ap Err same
 
 -- End comes without bytes
-end_is : (guests pages : ℕ) (item : Item) (len : ℕ) → is_end item ≡ true → IsInRange guests pages item len → (item ≡ items.End) × (len ≡ 0)
+end_is : (guests pages : ℕ) (item : Item) (len : ℕ) → is_end item ≡ true → FitsItem guests pages item len → (item ≡ items.End) × (len ≡ 0)
 end_is guests pages items.End len is range = (refl, range)
 end_is guests pages item len is range = absurd (cc)
 
 end_alone : (guests pages : ℕ) (next : Next) (room : List ℕ) → FitsItem guests pages next.item next.len → is_end next.item ≡ true
     → ◌≡◌ {A = FedItem} (record { item = next.item; piece = take next.len room }) end_of_items
 end_alone guests pages next room fits is =
-    let both = end_is guests pages next.item next.len is fits.in_range in
+    let both = end_is guests pages next.item next.len is fits in
     λ i. record { item = both.0 i; piece = take (both.1 i) room }
 
 -- what comes after an item

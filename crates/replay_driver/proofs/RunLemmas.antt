@@ -8,7 +8,7 @@ use Rattle.std.proofs.lemmas.List.Concat.{flat_map-append}
 use Rattle.desk_laws.specs.declared.setup.Setup.{Setup}
 use Rattle.desk_laws.specs.declared.item.Item.{Item}
 use Rattle.desk_laws.specs.declared.item.Item.TheVariants as items
-use Rattle.desk_laws.specs.Items.{FedItem, IsInRange, FitsItem}
+use Rattle.desk_laws.specs.Items.{FedItem, FitsItem}
 use Rattle.desk_laws.specs.declared.limits.TheConstants.{MAX_PIECE}
 use Rattle.desk_laws.specs.Scene.{Post}
 use Rattle.desk_laws.specs.Frames.{PortState, zeros}
@@ -270,7 +270,7 @@ no_memory gives setup bound feed frames before blank = record {
 
 -- ---- items in range
 
-pub piece_short : (guests pages : ℕ) (item : Item) (len : ℕ) → IsInRange guests pages item len → len ≤ MAX_PIECE
+pub piece_short : (guests pages : ℕ) (item : Item) (len : ℕ) → FitsItem guests pages item len → len ≤ MAX_PIECE
 piece_short guests pages (items.Bytes guest) len fits = fits.1.most
 piece_short guests pages (items.Closed guest) len fits = omega (arith, fits.1)
 piece_short guests pages (items.Store guest delay page offset) len fits = omega (arith, fits.1.within)
@@ -305,10 +305,10 @@ is_the_end (items.Lost guest) is = absurd (cc)
 is_the_end items.Idle is = absurd (cc)
 
 -- End comes without bytes
-pub end_alone : (guests pages : ℕ) (item : Item) (len : ℕ) (room : List ℕ) → IsInRange guests pages item len → is_end item ≡ true → record { item = item; piece = take len room } ≡ alone items.End
+pub end_alone : (guests pages : ℕ) (item : Item) (len : ℕ) (room : List ℕ) → FitsItem guests pages item len → is_end item ≡ true → record { item = item; piece = take len room } ≡ alone items.End
 end_alone guests pages item len room fits end =
     let is = is_the_end item end in
-    let none : len ≡ 0 = subst (λ (i : Item). IsInRange guests pages i len) is fits in
+    let none : len ≡ 0 = subst (λ (i : Item). FitsItem guests pages i len) is fits in
     ap (λ (i : Item). record { item = i; piece = take len room }) is ∙ ap (λ (n : ℕ). record { item = items.End; piece = take n room }) none
 
 -- an item in the feed's ranges is in the desk's
@@ -320,12 +320,12 @@ fits_desk guests guests' pages pages' item len len' many same long fits =
 pub item_fits : (setup : Setup) (guests pages : ℕ) (item : Item) (len : ℕ) (room : List ℕ) → guests ≡ length setup.guests → pages ≡ setup.pages → MAX_PIECE ≤ length room
     → FitsItem guests pages item len → Fits setup (record { item = item; piece = take len room })
 item_fits setup guests pages item len room many same whole fits =
-    let short : len ≤ MAX_PIECE = piece_short guests pages item len fits.in_range in
+    let short : len ≤ MAX_PIECE = piece_short guests pages item len fits in
     let long : len ≡ length (take len room) = omega (arith, length-take len room) in
     fits_desk guests (length setup.guests) pages setup.pages item len (length (take len room)) many same long fits
 
 -- an item is End, which comes without bytes, or another
-pub end_or : (guests pages : ℕ) (item : Item) (len : ℕ) (room : List ℕ) → IsInRange guests pages item len → (is_end item ≡ false) ⊎ (record { item = item; piece = take len room } ≡ alone items.End)
+pub end_or : (guests pages : ℕ) (item : Item) (len : ℕ) (room : List ℕ) → FitsItem guests pages item len → (is_end item ≡ false) ⊎ (record { item = item; piece = take len room } ≡ alone items.End)
 end_or guests pages item len room fits = elim (cases_Bool (is_end item)) [
   | inl end ↦ inr (end_alone guests pages item len room fits end)
   | inr more ↦ inl more

@@ -1,7 +1,7 @@
 use Rattle.std.proofs.Common.{◌∙◌, refl, sym, ap, subst}
+use Rattle.desk_laws.specs.Ranges.{IsPlace}
 use Rattle.window_table.specs.declared.pane.Pane.{Pane}
 use Rattle.window_table.specs.Entries.{Entry}
-use Rattle.guest_session.specs.SessionView.{IsPlace}
 use Rattle.guest_session.specs.RowsView.{StaysInside}
 use Rattle.guest_session.specs.Reading.{content_in}
 use Rattle.guest_session.proofs.TableLemmas.{has_slot}

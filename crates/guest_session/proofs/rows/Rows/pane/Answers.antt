@@ -1,7 +1,8 @@
 use Rattle.std.proofs.Common.{refl, subst}
+use Rattle.desk_laws.specs.Ranges.{IsPlace}
 use Rattle.window_table.specs.declared.pane.Pane.{Pane}
 use Rattle.window_table.specs.Entries.{Entry}
-use Rattle.guest_session.specs.SessionView.{IsPlace, AreRows}
+use Rattle.guest_session.specs.SessionView.{AreRows}
 use Rattle.guest_session.specs.RowsView.{RowsView}
 use Rattle.guest_session.proofs.TableLemmas.{has_slot, are_rows}
 use Rattle.guest_session.proofs.KeptLemmas.{row-none, got-is, shows-row, kept-at}

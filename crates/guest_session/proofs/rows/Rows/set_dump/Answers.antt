@@ -1,9 +1,9 @@
 use Rattle.std.proofs.Common.{◌≡◌, ◌∙◌, Some, None, refl, sym, ap, subst}
 use Rattle.std.specs.Prelude.{ℕ}
 use Rattle.gui_wire.specs.Seen.{references}
+use Rattle.desk_laws.specs.Ranges.{IsPlace}
 use Rattle.window_table.specs.Entries as entries
 use Rattle.window_table.specs.Entries.{Entry, TableView}
-use Rattle.guest_session.specs.SessionView.{IsPlace}
 use Rattle.guest_session.specs.RowsView.{FitsDump, RowsView, StaysInside, with_row, with_dump}
 use Rattle.guest_session.proofs.TableLemmas.{has_slot}
 use Rattle.guest_session.proofs.KeptLemmas.{kept-at, kept-updated, viewed-updated, row-is, row-none, dump-fits}
