@@ -6,6 +6,7 @@ use Rattle.gui_wire.specs.DaemonMessages.{DaemonMessage, daemon_spelling}
 use Rattle.desk_laws.specs.declared.input.GIn.{GIn}
 use Rattle.desk_laws.specs.declared.input.GIn.TheVariants.{Key, Button, Motion, Crossing, Focus, Keymap, Close, Place, Restored, ClipAsk, ClipGive}
 use Rattle.desk_laws.specs.Rows.{Row, mine, row_with, placed_at}
+use Rattle.desk_laws.specs.Ranges.{IsPlace}
 use Rattle.desk_laws.specs.Effects.{Change, Same, Replaced, changed, tells_place, flags_without, as_one}
 
 -- the window that a granted input names, if it names one
@@ -21,6 +22,11 @@ window_of (Place window rect) = Some window
 window_of (Restored window) = Some window
 window_of (ClipAsk window) = Some window
 window_of (ClipGive window) = Some window
+
+-- the place that is granted, if one is, is in range
+abbrev pub FitsGrant : GIn → Type 0
+FitsGrant (Place window rect) = IsPlace rect
+FitsGrant input = Unit {0}
 
 -- the change of its row
 abbrev pub grant_change : GIn → Row → Change

@@ -1,20 +1,13 @@
--- What is told of a granted input, and which grants a session takes.
+-- What a granted input does to the rows of a guest, and what is told of it.
 use Rattle.std.specs.Prelude.{◌≡◌, ℕ, List, [], ◌∷◌, Option, Some, None}
 use Rattle.gui_wire.specs.DaemonMessages.{DaemonKeepsLengths, daemon_spelling}
 use Rattle.gui_wire.specs.Seen.{daemon_message}
 use Rattle.gui_wire.specs.declared.DaemonMsg.{DaemonMsg}
 use Rattle.desk_laws.specs.declared.input.GIn.{GIn}
-use Rattle.desk_laws.specs.declared.input.GIn.TheVariants.{Place}
 use Rattle.desk_laws.specs.Grants.{Granted, granted, window_of}
 use Rattle.desk_laws.specs.Scene.{Post, replies}
-use Rattle.desk_laws.specs.Ranges.{IsPlace}
 use Rattle.io_ports.specs.Posts.{Leads}
 use Rattle.guest_session.specs.RowsView.{RowsView}
-
--- the place that is granted, if one is, is in range
-abbrev pub FitsGrant : GIn → Type 0
-FitsGrant (Place window rect) = IsPlace rect
-FitsGrant input = Unit {0}
 
 -- a name of a window, 0 for none
 abbrev pub or_none : Option ℕ → ℕ

@@ -3,13 +3,13 @@ ghost use Rattle.std.specs.Prelude.{◌≡◌, ◌+◌, ◌≤◌, [], ◌∷◌
 ghost use Rattle.gui_wire.specs.declared.limits.TheConstants.{MAX_CLIPBOARD_SIZE};
 ghost use Rattle.desk_laws.specs.Rows.{Row, row_with};
 ghost use Rattle.desk_laws.specs.Effects.{as_one};
-ghost use Rattle.desk_laws.specs.Grants.{grant_answers, grant_change, window_of};
+ghost use Rattle.desk_laws.specs.Grants.{FitsGrant, grant_answers, grant_change, window_of};
 ghost use Rattle.desk_laws.specs.Scene.{replies};
 ghost use Rattle.io_ports.specs.Posts.{Leads};
 ghost use Rattle.guest_session.specs.RowsView.{with_change};
 ghost use Rattle.gui_wire.specs.DaemonMessages.{DaemonKeepsLengths, daemon_body, daemon_spelling};
 ghost use Rattle.gui_wire.specs.Seen.{daemon_message};
-ghost use Rattle.guest_session.specs.Grants.{FitsGrant, Grants, IsTold, window_named};
+ghost use Rattle.guest_session.specs.Grants.{Grants, IsTold, window_named};
 
 use crate::edit::Edit;
 use crate::rows::Rows;

@@ -6,7 +6,7 @@ ghost use Rattle.desk_laws.specs.Rules.{first_broken};
 ghost use Rattle.desk_laws.specs.Sizes.{sizes_of};
 ghost use Rattle.desk_laws.specs.Rows.{row_with, span};
 ghost use Rattle.gui_wire.specs.declared.limits.TheConstants.{MAX_CLIPBOARD_SIZE};
-ghost use Rattle.desk_laws.specs.Grants.{granted};
+ghost use Rattle.desk_laws.specs.Grants.{FitsGrant, granted};
 ghost use Rattle.desk_laws.specs.Scene.{replies};
 ghost use Rattle.desk_laws.specs.Stream.{front};
 ghost use Rattle.desk_laws.specs.Stream as cut;
@@ -21,7 +21,6 @@ ghost use Rattle.guest_session.specs.Clips.{BeginsWithClip, HasClip, HasKeptClip
 ghost use Rattle.tile_store.specs.Contents.{colour_or};
 ghost use Rattle.guest_session.specs.Reading.{content_in};
 ghost use Rattle.guest_session.specs.Turns.{Turns};
-ghost use Rattle.guest_session.specs.Grants.{FitsGrant};
 
 use crate::Turn;
 use crate::desk::desk_of;

@@ -1,7 +1,7 @@
 // One session each, with hand-computed answers, on a desktop of 8 by 6. What each message does is told by
 // the definitions, and by the tests of the program.
 ghost use Rattle.std.specs.Prelude.{◌≡◌, ◌<◌, ◌≤◌, None, length};
-ghost use Rattle.guest_session.specs.Grants.{FitsGrant};
+ghost use Rattle.desk_laws.specs.Grants.{FitsGrant};
 
 use super::*;
 use desk_laws::{Cause, GIn, GuestSetup, Guests, Name, Setup};

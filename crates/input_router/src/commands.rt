@@ -4,7 +4,7 @@ ghost use Rattle.std.specs.Prelude.{◌≡◌, ◌∷◌, [], IfSome, IsTrue, op
 ghost use Rattle.desk_laws.specs.declared.input.GIn.TheVariants as g;
 ghost use Rattle.desk_laws.specs.Events.{move_to, size_to};
 ghost use Rattle.desk_laws.specs.Layers.{is_in};
-ghost use Rattle.desk_laws.specs.Ranges.{place_in_range, width_in_range, height_in_range, size_of};
+ghost use Rattle.desk_laws.specs.Ranges.{IsPlace, place_in_range, width_in_range, height_in_range, size_of};
 ghost use Rattle.desk_laws.specs.Scene.{Grants};
 ghost use Rattle.input_router.specs.Commanded.{raised_if, closing, restoring, place_in, placing};
 ghost use Rattle.input_router.specs.Deliveries.{Leads};
@@ -35,7 +35,9 @@ fn size_of(n: i32) -> u32
 
 // A place moved to a pixel, as far as the range of places goes.
 fn moved_to(place: Rect, x: i32, y: i32) -> Rect
-    ensures { result ≡ move_to x y place }
+    requires { IsPlace place }
+    ensures is { result ≡ move_to x y place }
+    ensures range { IsPlace result }
 {
     Rect {
         x: place_in_range(x),
@@ -46,7 +48,9 @@ fn moved_to(place: Rect, x: i32, y: i32) -> Rect
 
 // A place with another size, brought into the range of sizes.
 fn sized_to(place: Rect, w: i32, h: i32) -> Rect
-    ensures { result ≡ size_to w h place }
+    requires { IsPlace place }
+    ensures is { result ≡ size_to w h place }
+    ensures range { IsPlace result }
 {
     Rect {
         w: size_of(w).min(MAX_WINDOW_WIDTH).max(1),
@@ -57,7 +61,8 @@ fn sized_to(place: Rect, w: i32, h: i32) -> Rect
 
 // The row that has the focus, with its place.
 fn focus_place<Q: Places>(stack: &Stacking, places: &Q) -> Option<(RowId, Rect)>
-    ensures { result ≡ place_in (Q.spots places.now) (last_wanted Normal (Q.spots places.now) stack.now.layers) }
+    ensures range { IfSome result (λ found. IsPlace found.1) }
+    ensures is { result ≡ place_in (Q.spots places.now) (last_wanted Normal (Q.spots places.now) stack.now.layers) }
 {
     match last_listed(stack, places, Wanted::Normal) {
         Some(id) => {
@@ -72,6 +77,7 @@ fn focus_place<Q: Places>(stack: &Stacking, places: &Q) -> Option<(RowId, Rect)>
 
 // Puts a row at a place.
 fn tell_place<V: Deliver>(id: RowId, rect: Rect, to: &mut V)
+    requires { IsPlace rect }
     ensures { Leads V.delivers to.old (Grants id (g.Place id.window rect) ∷ []) to.new }
 {
     let place = GIn::Place {

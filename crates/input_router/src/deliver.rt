@@ -1,4 +1,5 @@
 // Where what the user's events bring about goes to.
+ghost use Rattle.desk_laws.specs.Grants.{FitsGrant};
 ghost use Rattle.desk_laws.specs.Scene.{Delivery, Grants, Asks, Pastes};
 
 use desk_laws::{GIn, RowId};
@@ -12,8 +13,9 @@ pub trait Deliver {
     /// The deliverer before a delivery, the delivery, and the deliverer after it.
     ghost delivers: { Self → Delivery → Self → Type 0 };
 
-    /// Grants a row an input.
+    /// Grants a row an input. A place that is granted is in range, as `Places::place` says it.
     fn grant(&mut self, id: RowId, g: &GIn)
+        requires { FitsGrant g.now }
         ensures { delivers self.old (Grants id g.now) self.new };
 
     /// Asks the guest of a row for its clipboard, in the row's name.
