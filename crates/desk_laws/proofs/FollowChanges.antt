@@ -17,7 +17,7 @@ use Rattle.desk_laws.proofs.RowLemmas.{apart-push}
 use Rattle.desk_laws.proofs.IdLemmas.{filter-same, filter-whole, filter-empty, length-same}
 use Rattle.desk_laws.proofs.FollowLemmas.{Test, come, focus-has, follows-row, ids-apart, ids-have, ids_where, is_listed, is_normal, is_over, is_row-same, layer-normal, layer-over, lists-follow, normal-has, over-has, passes, rows-apart, same-lists, stay}
 
-abbrev the : ℕ → ℕ → RowId
+abbrev pub the : ℕ → ℕ → RowId
 the guest window = record { guest = guest; window = window }
 
 -- ---- the row of a window, among its guest's rows or all
@@ -129,7 +129,7 @@ replaced-ids guest new (row ∷ rows) = by_row (is_row guest new.window row) ref
         ap (λ ids. the guest new.window ∷ ids) ih ∙ ap (λ n. the n new.window ∷ map id_of rows) g ∙ ap (λ n. the row.guest n ∷ map id_of rows) w
     by_row false e ih = ap (λ ids. id_of row ∷ ids) ih
 
-replaced-other : (guest : ℕ) (new : Row) (rows : List Row) (other : RowId) → same_row (the guest new.window) other ≡ false
+pub replaced-other : (guest : ℕ) (new : Row) (rows : List Row) (other : RowId) → same_row (the guest new.window) other ≡ false
     → row_at other (map (replaced_in guest new) rows) ≡ row_at other rows
 replaced-other guest new [] other out = refl
 replaced-other guest new (row ∷ rows) other out = by_row (is_row guest new.window row) refl (replaced-other guest new rows other out)

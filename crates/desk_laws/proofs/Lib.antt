@@ -12,6 +12,7 @@ pub mod RowLemmas
 pub mod RuleLemmas
 pub mod ShareLemmas
 pub mod SettleLemmas
+pub mod SettledLemmas
 pub mod ListedLemmas
 pub mod LimitLemmas
 pub mod EventLemmas
