@@ -3,6 +3,7 @@ use Rattle.std.proofs.Common.{◌≡◌, ℕ, Bool, true, false, ◌&&◌, ◌==
 use Rattle.std.specs.Prelude.{ℤ, option_map, filter_map, if◌then◌else◌}
 use Rattle.std.specs.List.{cons_option}
 use Rattle.std.proofs.lemmas.Bool.{and_parts, eqb-true}
+use Rattle.std.proofs.lemmas.List.{append-nil}
 use Rattle.gui_num.specs.declared.Rect.{Rect}
 use Rattle.gui_num.specs.declared.Point.{Point}
 use Rattle.gui_num.specs.Rects.{has, grown}
@@ -17,7 +18,7 @@ use Rattle.desk_laws.specs.Layers.{Layers, is_in, are_apart, followed, or_else, 
 use Rattle.desk_laws.specs.Following.{LayersFollow}
 use Rattle.desk_laws.specs.Effects.{Area, Verdict, Reads, Replaced, changed, verdict, of_guest, drawn_row, frame_places, points}
 use Rattle.desk_laws.specs.Frames.{load_all}
-use Rattle.desk_laws.specs.Scene.{Scene, Seat, Grab, Delivery, Grants, Asks, Pastes, InputOutcome, unchanged, perform, scene_of_input, with_rows, with_deliveries, ignored}
+use Rattle.desk_laws.specs.Scene.{Scene, Seat, Grab, Delivery, Grants, Asks, Pastes, InputOutcome, SceneOutcome, Post, GuestInput, outcome_after, and_then, unchanged, perform, scene_of_input, with_rows, with_deliveries, ignored}
 use Rattle.desk_laws.specs.State.{DeskState, opening, session_of}
 use Rattle.desk_laws.specs.Settle.{focus_now, hover_now, hover_by, content_owner, same_id, grab_shown, grab_checked, focusing, keymap, crossing, focus_told, hover_told, settled_seat, settled, settle, IsSettled}
 use Rattle.desk_laws.specs.Events.{on_desktop, with_pointer, moves, move, is_among, is_chord, held, released, with_pressed_keys, plain_key, key_by, route}
@@ -289,6 +290,13 @@ settled-silent sizes scene is =
         ∙ ap (told scene.seat.focus) (sym is.hover)
         ∙ ap (λ (b : Bool). told_where b (same_id scene.seat.hover scene.seat.hover)) (same_id-itself scene.seat.focus)
         ∙ ap (told_where true) (same_id-itself scene.seat.hover)
+
+-- so settle may be left out of an outcome
+pub settled-outcome : (sizes : Sizes) (before : SceneOutcome) → IsSettled sizes before.scene → and_then before (settle sizes) ≡ before
+settled-outcome sizes before is =
+    ap (outcome_after before) (settled-silent sizes before.scene is)
+    ∙ ap (λ (posts : List Post). record before { posts = posts; inputs = before.inputs ++ [] }) (append-nil before.posts)
+    ∙ ap (λ (inputs : List GuestInput). record before { inputs = inputs }) (append-nil before.inputs)
 
 -- nothing is there, and nothing was told
 pub opening-settled : (setup : Setup) → IsSettled (sizes_of setup) (opening setup).scene
