@@ -5,4 +5,5 @@ pub mod RangeLemmas
 pub mod RouteLemmas
 pub mod SceneLemmas
 pub mod SettleLemmas
+pub mod SettledLemmas
 pub mod WalkLemmas

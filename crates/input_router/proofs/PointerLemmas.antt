@@ -10,12 +10,13 @@ use Rattle.desk_laws.specs.Sizes.{sizes_of}
 use Rattle.desk_laws.specs.Rows.{Row, id_of, row_at}
 use Rattle.desk_laws.specs.Layers.{Layers, is_in, raised, topmost}
 use Rattle.desk_laws.specs.Scene.{Scene, Seat, Delivery, Grants, InputOutcome, with_deliveries, ignored}
-use Rattle.desk_laws.specs.Settle.{same_id, hover_now}
+use Rattle.desk_laws.specs.declared.item.Item.TheVariants.{Move}
+use Rattle.desk_laws.specs.Settle.{same_id, hover_now, IsSettled}
 use Rattle.desk_laws.specs.Events.{on_desktop, with_pointer, motion, moves, move, button, grabbing, layers_pressed, press_owner}
 use Rattle.input_router.specs.Deliveries.{Leads}
 use Rattle.input_router.specs.Pointed.{motion_in, moves_in, button_in}
 use Rattle.input_router.specs.Presents.{Presents, Carries}
-use Rattle.input_router.specs.Routes.{Raises, changed_by, Routes}
+use Rattle.input_router.specs.Routes.{Raises, changed_by, normal_id, pointed, hover_stays, Presses, Routes}
 use Rattle.input_router.specs.Seated.{hover_of}
 use Rattle.input_router.specs.Spots.{Spot, spot_of, Shows, has_content, is_over_at}
 use Rattle.input_router.specs.Walks.{top_of}
@@ -34,34 +35,51 @@ module _ (border : ℕ) (spots : RowId → Option Spot) (scene : Scene) (shows :
 
 -- ---- a move
 
-pub point-done : {V : Type 0} (delivers : V → Delivery → V → Type 0) (a b : V) (setup : Setup) (spots : RowId → Option Spot) (layers : Layers) (seat put : Seat) (p : Point) (state : ℕ) (before : Option RowId) (scene : Scene)
-    → Presents setup.border spots layers seat scene → on_desktop setup p ≡ true
-    → before ≡ hover_of spots layers seat.grab seat.pointer
-    → put ≡ with_pointer p seat
-    → Leads delivers a (moves_in spots put.pointer state before (hover_of spots layers put.grab put.pointer)) b
-    → Carries delivers a b put (move setup p state scene)
-point-done {V = V} delivers a b setup spots layers seat put p state before scene is inside is_before is_put told =
-    let sizes = sizes_of setup in
-    let moved : Scene = record scene { seat = with_pointer p scene.seat } in
-    let put' : put ≡ moved.seat = is_put ∙ ap (with_pointer p) (sym is.has_seat) in
-    let before' : before ≡ hover_now sizes scene =
-    is_before ∙ ap (λ (l : Layers). hover_of spots l seat.grab seat.pointer) (sym is.has_layers)
-    ∙ ap (λ (s : Seat). hover_of spots scene.layers s.grab s.pointer) (sym is.has_seat)
-    ∙ hover-same setup.border spots scene is.shows sizes refl scene.seat.grab scene.seat.pointer in
-    let after = hover_of spots layers put.grab put.pointer in
-    let after' : after ≡ hover_now sizes moved =
-    ap (λ (l : Layers). hover_of spots l put.grab put.pointer) (sym is.has_layers)
-    ∙ ap (λ (s : Seat). hover_of spots scene.layers s.grab s.pointer) put'
-    ∙ hover-same setup.border spots moved is.shows sizes refl moved.seat.grab moved.seat.pointer in
-    let told' : moves_in spots put.pointer state before after ≡ moves sizes state (hover_now sizes scene) moved =
-    ap (λ (s : Seat). moves_in spots s.pointer state before after) put'
-    ∙ ap (λ (h : Option RowId). moves_in spots moved.seat.pointer state h after) before'
-    ∙ ap (λ (h : Option RowId). moves_in spots moved.seat.pointer state (hover_now sizes scene) h) after'
-    ∙ ap (λ (xs : List Delivery). if same_id (hover_now sizes scene) (hover_now sizes moved) then xs else []) (motion-same setup.border spots moved is.shows state (hover_now sizes scene)) in
-    let outcome : InputOutcome = with_deliveries scene moved.seat (moves sizes state (hover_now sizes scene) moved) in
-    let here : move setup p state scene ≡ outcome = ap (λ (v : Bool). if v then outcome else ignored scene) inside in
-    subst (λ (o : InputOutcome). Carries delivers a b put o) (sym here)
-    (record { has_seat = put'; leads = subst (λ (xs : List Delivery). Leads delivers a xs b) told' told })
+module _ {V : Type 0} (delivers : V → Delivery → V → Type 0) (a b : V) (setup : Setup) (spots : RowId → Option Spot) (layers : Layers) (seat : Seat) (p : Point) (scene : Scene)
+    (is : Presents setup.border spots layers seat scene) (still : IsSettled (sizes_of setup) scene) where
+  -- the hover last told is the one before the move
+  hover-before : seat.hover ≡ hover_now (sizes_of setup) scene
+  hover-before = ap (λ (s : Seat). s.hover) (sym is.has_seat) ∙ still.hover
+
+  hover-after : hover_of spots layers seat.grab (Some p) ≡ hover_now (sizes_of setup) (pointed p scene)
+  hover-after =
+      ap (λ (l : Layers). hover_of spots l seat.grab (Some p)) (sym is.has_layers)
+      ∙ ap (λ (s : Seat). hover_of spots scene.layers s.grab (Some p)) (sym is.has_seat)
+      ∙ hover-same setup.border spots (pointed p scene) is.shows (sizes_of setup) refl scene.seat.grab (Some p)
+
+  told-after : (state : ℕ) → moves_in spots (Some p) state seat.hover (hover_of spots layers seat.grab (Some p))
+      ≡ moves (sizes_of setup) state (hover_now (sizes_of setup) scene) (pointed p scene)
+  told-after state =
+      ap (λ (h : Option RowId). moves_in spots (Some p) state h (hover_of spots layers seat.grab (Some p))) hover-before
+      ∙ ap (moves_in spots (Some p) state (hover_now (sizes_of setup) scene)) hover-after
+      ∙ ap (λ (xs : List Delivery). if hover_stays setup p scene then xs else []) (motion-same setup.border spots (pointed p scene) is.shows state (hover_now (sizes_of setup) scene))
+
+  -- a pixel of the desktop, where the pointer comes
+  pub route-move : (last : Seat) (state : ℕ) (stays : Bool) → on_desktop setup p ≡ true
+      → last ≡ with_pointer p seat
+      → Leads delivers a (moves_in spots (Some p) state seat.hover (hover_of spots layers seat.grab (Some p))) b
+      → stays ≡ same_id seat.hover (hover_of spots layers seat.grab (Some p))
+      → Routes delivers a b last layers layers (record { raised = None; changed = None; settled = stays }) setup (Move p.x p.y state) scene
+  route-move last state stays inside is_last told is_stays =
+      let outcome : InputOutcome = with_deliveries scene (with_pointer p scene.seat) (moves (sizes_of setup) state (hover_now (sizes_of setup) scene) (pointed p scene)) in
+      let here : outcome ≡ move setup p state scene = sym (ap (λ (v : Bool). if v then outcome else ignored scene) inside) in
+      let stays' : stays ≡ hover_stays setup p scene =
+      is_stays ∙ ap (λ (h : Option RowId). same_id h (hover_of spots layers seat.grab (Some p))) hover-before
+      ∙ ap (same_id (hover_now (sizes_of setup) scene)) hover-after in
+      record {
+        carries = subst (λ (o : InputOutcome). Carries delivers a b last o) here
+            (record { has_seat = is_last ∙ ap (with_pointer p) (sym is.has_seat); leads = subst (λ (xs : List Delivery). Leads delivers a xs b) (told-after state) told });
+        has_layers = sym is.has_layers ∙ ap (λ (o : InputOutcome). o.layers) here;
+        raises = sym (ap (λ (o : InputOutcome). o.layers) here) ∙ is.has_layers;
+        raised = refl;
+        changes = sym (no-place (hover_stays setup p scene) (hover_now (sizes_of setup) scene)) ∙ ap (λ (o : InputOutcome). changed_by o.deliveries) here;
+        settled = stays';
+      }
+    where
+      no-place : (v : Bool) (row : Option RowId) → changed_by (if v then motion row state (pointed p scene) else []) ≡ None
+      no-place true None = refl
+      no-place true (Some id) = refl
+      no-place false row = refl
 
 -- ---- a press
 
@@ -72,7 +90,7 @@ pub press-row : {V : Type 0} (delivers : V → Delivery → V → Type 0) (a b :
     → Leads delivers a (if has_content p (spots id) then button_in spots seat.pointer id true code state else []) b
     → new ≡ (if is_over_at (spots id) then layers else raised id layers)
     → raised_row ≡ (if is_over_at (spots id) then None else Some id)
-    → Routes delivers a b last layers new (record { raised = raised_row; changed = None }) (press_owner (topmost setup.border scene.rows scene.layers p) p code state scene)
+    → Presses delivers a b last layers new raised_row (normal_id (topmost setup.border scene.rows scene.layers p)) (press_owner (topmost setup.border scene.rows scene.layers p) p code state scene)
 press-row {V = V} delivers a b setup spots layers new seat last p code state id raised_row scene is top listed is_last told is_new is_raised =
     let border = setup.border in
     let top' : top_of spots scene.layers p ≡ Some id = ap (λ (l : Layers). top_of spots l p) is.has_layers ∙ top in
@@ -100,27 +118,29 @@ press-row {V = V} delivers a b setup spots layers new seat last p code state id 
     ∙ ap (λ (i : RowId). if row.over then None else Some i) (sym here) in
     let by_over : (o : Bool) → Raises (if o then None else Some (id_of row)) layers (if o then scene.layers else raised (id_of row) scene.layers) =
     elim [ true ↦ is.has_layers | false ↦ (subst (λ (i : RowId). IsTrue (is_in layers.focus i)) (sym here) listed, ap (raised (id_of row)) is.has_layers) ] in
-    let by_content : (v : Bool) → None ≡ changed_by (if v then button (id_of row) true code state scene else []) =
+    let by_content : (v : Bool) → changed_by (if v then button (id_of row) true code state scene else []) ≡ None =
     elim [ true ↦ refl | false ↦ refl ] in
-    subst (λ (o : Option Row). Routes delivers a b last layers new (record { raised = raised_row; changed = None }) (press_owner o p code state scene)) (sym owner)
+    subst (λ (o : Option Row). Presses delivers a b last layers new raised_row (normal_id o) (press_owner o p code state scene)) (sym owner)
     (record {
       carries = record { has_seat = last'; leads = subst (λ (xs : List Delivery). Leads delivers a xs b) told' told };
       has_layers = new';
       raises = subst (λ (r : Option RowId). Raises r layers (layers_pressed row scene.layers)) (sym raised') (by_over row.over);
-      changes = by_content (has row.place p);
+      raised = raised';
+      no_place = by_content (has row.place p);
     })
 
 -- on no row
 pub press-nothing : {V : Type 0} (delivers : V → Delivery → V → Type 0) (a b : V) (setup : Setup) (spots : RowId → Option Spot) (layers : Layers) (seat : Seat) (p : Point) (code state : ℕ) (scene : Scene)
     → Presents setup.border spots layers seat scene → top_of spots layers p ≡ None → a ≡ b
-    → Routes delivers a b seat layers layers (record { raised = None; changed = None }) (press_owner (topmost setup.border scene.rows scene.layers p) p code state scene)
+    → Presses delivers a b seat layers layers None (normal_id (topmost setup.border scene.rows scene.layers p)) (press_owner (topmost setup.border scene.rows scene.layers p) p code state scene)
 press-nothing {V = V} delivers a b setup spots layers seat p code state scene is top same =
     let owner : topmost setup.border scene.rows scene.layers p ≡ None =
     top-row setup.border spots scene is.shows p ∙ ap (option_and_then (λ i. row_at i scene.rows)) (ap (λ (l : Layers). top_of spots l p) is.has_layers ∙ top) in
-    subst (λ (o : Option Row). Routes delivers a b seat layers layers (record { raised = None; changed = None }) (press_owner o p code state scene)) (sym owner)
+    subst (λ (o : Option Row). Presses delivers a b seat layers layers None (normal_id o) (press_owner o p code state scene)) (sym owner)
     (record {
       carries = record { has_seat = sym is.has_seat; leads = same };
       has_layers = sym is.has_layers;
       raises = is.has_layers;
-      changes = refl;
+      raised = refl;
+      no_place = refl;
     })

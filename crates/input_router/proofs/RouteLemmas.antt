@@ -4,11 +4,13 @@ use Rattle.std.specs.Prelude.{find, option_map, IfSome, if◌then◌else◌}
 use Rattle.gui_num.specs.declared.Rect.{Rect}
 use Rattle.desk_laws.specs.declared.row_id.RowId.{RowId}
 use Rattle.desk_laws.specs.declared.item.Item.{Item}
+use Rattle.desk_laws.specs.declared.item.Item.TheVariants as item
 use Rattle.desk_laws.specs.declared.setup.Setup.{Setup}
 use Rattle.desk_laws.specs.Rows.{Row, id_of, is_shown, is_hidden}
 use Rattle.desk_laws.specs.Layers.{Layers, is_in, raised, last_that, focus_of}
 use Rattle.desk_laws.specs.Scene.{Scene, Seat, Grab, Delivery, Grants, Asks, Pastes, InputOutcome, with_deliveries, ignored}
-use Rattle.desk_laws.specs.Settle.{focus_now}
+use Rattle.desk_laws.specs.Settle.{focus_now, IsSettled}
+use Rattle.desk_laws.specs.Sizes.{Sizes, sizes_of}
 use Rattle.desk_laws.specs.declared.input.GIn.TheVariants as g
 use Rattle.desk_laws.specs.Events.{is_among, is_chord, released, with_pressed_keys, plain_key, key_to, key_by, close_by, place_by, raise_by, restore_by, listed, grab_left, button, release_by, press, route}
 use Rattle.input_router.specs.declared.router.Routed.{Routed}
@@ -16,7 +18,7 @@ use Rattle.input_router.specs.declared.walks.Wanted.TheVariants.{Normal, Hidden}
 use Rattle.input_router.specs.Commanded.{seated, raised_if, closing, restoring, place_in, placing}
 use Rattle.input_router.specs.Deliveries.{Leads}
 use Rattle.input_router.specs.Presents.{Presents, Carries}
-use Rattle.input_router.specs.Routes.{AreMapped, changed_by, Routes}
+use Rattle.input_router.specs.Routes.{AreMapped, Raises, changed_by, raised_press, raised_by, settled_by, Presses, Routes}
 use Rattle.input_router.specs.Spots.{Spot}
 use Rattle.input_router.specs.Walks.{first_wanted, last_wanted}
 use Rattle.input_router.proofs.SceneLemmas.{focus-id, next-id, hidden-id, focus-place}
@@ -28,10 +30,22 @@ record Stays (layers : Layers) (o : InputOutcome) : Type 0 where
   has_layers : o.layers ≡ layers
   no_place : changed_by o.deliveries ≡ None
 
-stays-routes : {V : Type 0} (delivers : V → Delivery → V → Type 0) (a b : V) (last : Seat) (layers : Layers) (o : InputOutcome) → Carries delivers a b last o → Stays layers o
-    → Routes delivers a b last layers layers (record { raised = None; changed = None }) o
-stays-routes delivers a b last layers o is stays =
-    record { carries = is; has_layers = sym stays.has_layers; raises = stays.has_layers; changes = sym stays.no_place }
+stays-routes : {V : Type 0} (delivers : V → Delivery → V → Type 0) (a b : V) (last : Seat) (layers : Layers) (setup : Setup) (event : Item) (scene : Scene) (stays : Bool)
+    → Carries delivers a b last (route setup event scene) → Stays layers (route setup event scene) → raised_by setup event scene ≡ None → stays ≡ settled_by setup event scene
+    → Routes delivers a b last layers layers (record { raised = None; changed = None; settled = stays }) setup event scene
+stays-routes delivers a b last layers setup event scene stays is same unraised settled = record {
+  carries = is;
+  has_layers = sym same.has_layers;
+  raises = same.has_layers;
+  raised = sym unraised;
+  changes = sym same.no_place;
+  settled = settled;
+}
+
+-- the focus last told is the focus
+focus-told : (border : ℕ) (spots : RowId → Option Spot) (layers : Layers) (seat : Seat) (sizes : Sizes) (scene : Scene) → Presents border spots layers seat scene → IsSettled sizes scene
+    → seat.focus ≡ focus_now scene
+focus-told border spots layers seat sizes scene is still = ap (λ (s : Seat). s.focus) (sym is.has_seat) ∙ still.focus
 
 -- ---- keys
 
@@ -82,66 +96,68 @@ key-stays (Some id) down code state scene =
     by_tests false true o is = record { has_layers = refl; no_place = refl }
     by_tests false false o is = is
 
--- the row that has the focus
-focus-same : (border : ℕ) (spots : RowId → Option Spot) (layers : Layers) (seat : Seat) (scene : Scene) → Presents border spots layers seat scene → focus_now scene ≡ last_wanted Normal spots layers
-focus-same border spots layers seat scene is = focus-id border spots scene is.shows ∙ ap (last_wanted Normal spots) is.has_layers
+keyed-same : (row : Option RowId) (down : Bool) (code state : ℕ) (scene : Scene) → SameEffect (key_by row down code state (seated scene.seat)) (key_by row down code state scene)
+keyed-same None down code state scene = record { same_seat = refl; same_deliveries = refl }
+keyed-same (Some id) down code state scene = key-same id down code state scene
 
-pub key-done : {V : Type 0} (delivers : V → Delivery → V → Type 0) (a b : V) (border : ℕ) (spots : RowId → Option Spot) (layers : Layers) (seat last : Seat) (id : RowId) (down : Bool) (code state : ℕ) (scene : Scene)
-    → Presents border spots layers seat scene → last_wanted Normal spots layers ≡ Some id
-    → Carries delivers a b last (key_to id down code state (seated seat))
-    → Carries delivers a b last (key_by (focus_now scene) down code state scene)
-key-done {V = V} delivers a b border spots layers seat last id down code state scene is found done =
-    let focus : focus_now scene ≡ Some id = focus-same border spots layers seat scene is ∙ found in
-    let here : Carries delivers a b last (key_to id down code state (seated scene.seat)) =
-    subst (λ (s : Seat). Carries delivers a b last (key_to id down code state (seated s))) (sym is.has_seat) done in
-    let same = key-same id down code state scene in
-    subst (λ (o : Option RowId). Carries delivers a b last (key_by o down code state scene)) (sym focus)
+pub route-key : {V : Type 0} (delivers : V → Delivery → V → Type 0) (a b : V) (setup : Setup) (spots : RowId → Option Spot) (layers : Layers) (seat last : Seat) (down : Bool) (code state : ℕ) (scene : Scene)
+    → Presents setup.border spots layers seat scene → IsSettled (sizes_of setup) scene
+    → Carries delivers a b last (key_by seat.focus down code state (seated seat))
+    → Routes delivers a b last layers layers (record { raised = None; changed = None; settled = true }) setup (item.Key down code state) scene
+route-key {V = V} delivers a b setup spots layers seat last down code state scene is still done =
+    let focus = focus_now scene in
+    let seated_so : Carries delivers a b last (key_by seat.focus down code state (seated scene.seat)) =
+    subst (λ (s : Seat). Carries delivers a b last (key_by seat.focus down code state (seated s))) (sym is.has_seat) done in
+    let here : Carries delivers a b last (key_by focus down code state (seated scene.seat)) =
+    subst (λ (o : Option RowId). Carries delivers a b last (key_by o down code state (seated scene.seat))) (focus-told setup.border spots layers seat (sizes_of setup) scene is still) seated_so in
+    let same = keyed-same focus down code state scene in
+    let stays = key-stays focus down code state scene in
+    stays-routes delivers a b last layers setup (item.Key down code state) scene true
     (record { has_seat = here.has_seat ∙ same.same_seat; leads = subst (λ (xs : List Delivery). Leads delivers a xs b) same.same_deliveries here.leads })
-
-pub key-nowhere : {V : Type 0} (delivers : V → Delivery → V → Type 0) (a : V) (border : ℕ) (spots : RowId → Option Spot) (layers : Layers) (seat : Seat) (down : Bool) (code state : ℕ) (scene : Scene)
-    → Presents border spots layers seat scene → last_wanted Normal spots layers ≡ None
-    → Carries delivers a a seat (key_by (focus_now scene) down code state scene)
-key-nowhere {V = V} delivers a border spots layers seat down code state scene is found =
-    let focus : focus_now scene ≡ None = focus-same border spots layers seat scene is ∙ found in
-    subst (λ (o : Option RowId). Carries delivers a a seat (key_by o down code state scene)) (sym focus)
-    (record { has_seat = sym is.has_seat; leads = refl })
-
-pub route-key : {V : Type 0} (delivers : V → Delivery → V → Type 0) (a b : V) (border : ℕ) (spots : RowId → Option Spot) (layers : Layers) (seat last : Seat) (down : Bool) (code state : ℕ) (scene : Scene)
-    → Presents border spots layers seat scene
-    → Carries delivers a b last (key_by (focus_now scene) down code state scene)
-    → Routes delivers a b last layers layers (record { raised = None; changed = None }) (key_by (focus_now scene) down code state scene)
-route-key {V = V} delivers a b border spots layers seat last down code state scene is done =
-    let stays = key-stays (focus_now scene) down code state scene in
-    stays-routes delivers a b last layers (key_by (focus_now scene) down code state scene) done
-    (record { has_layers = stays.has_layers ∙ is.has_layers; no_place = stays.no_place })
+    (record { has_layers = stays.has_layers ∙ is.has_layers; no_place = stays.no_place }) refl refl
 
 -- ---- commands
 
-pub route-close : {V : Type 0} (delivers : V → Delivery → V → Type 0) (a b : V) (border : ℕ) (spots : RowId → Option Spot) (layers : Layers) (seat : Seat) (scene : Scene)
-    → Presents border spots layers seat scene
-    → Leads delivers a (closing (last_wanted Normal spots layers)) b
-    → Routes delivers a b seat layers layers (record { raised = None; changed = None }) (close_by (focus_now scene) scene)
-route-close {V = V} delivers a b border spots layers seat scene is told =
-    by_focus (focus_now scene) (subst (λ (o : Option RowId). Leads delivers a (closing o) b) (sym (focus-same border spots layers seat scene is)) told)
-  where
-    by_focus : (o : Option RowId) → Leads delivers a (closing o) b → Routes delivers a b seat layers layers (record { raised = None; changed = None }) (close_by o scene)
-    by_focus None h =
-        stays-routes delivers a b seat layers (ignored scene) (record { has_seat = sym is.has_seat; leads = h }) (record { has_layers = is.has_layers; no_place = refl })
-    by_focus (Some id) h =
-        stays-routes delivers a b seat layers (close_by (Some id) scene) (record { has_seat = sym is.has_seat; leads = h }) (record { has_layers = is.has_layers; no_place = refl })
+-- what a command does, with the row that it raises and the one whose place or flags it changes
+record RaisesRow {V : Type 0} (delivers : V → Delivery → V → Type 0) (first last : V) (seat : Seat) (before after : Layers) (row changed : Option RowId) (outcome : InputOutcome) : Type 0 where
+  carries : Carries delivers first last seat outcome
+  has_layers : after ≡ outcome.layers
+  raises : Raises row before outcome.layers
+  changes : changed ≡ changed_by outcome.deliveries
 
-pub route-next : {V : Type 0} (delivers : V → Delivery → V → Type 0) (a : V) (border : ℕ) (spots : RowId → Option Spot) (layers new : Layers) (seat : Seat) (row : Option RowId) (scene : Scene)
-    → Presents border spots layers seat scene
+-- a command that puts the focus at the place that this function gives
+pub record Places (setup : Setup) (event : Item) (scene : Scene) (f : Rect → Rect) : Type 0 where
+  pub outcome : route setup event scene ≡ place_by (focus_of scene.rows scene.layers) f scene
+  pub unraised : raised_by setup event scene ≡ None
+  pub unsaid : settled_by setup event scene ≡ false
+
+pub route-close : {V : Type 0} (delivers : V → Delivery → V → Type 0) (a b : V) (setup : Setup) (spots : RowId → Option Spot) (layers : Layers) (seat : Seat) (focus : Option RowId) (scene : Scene)
+    → Presents setup.border spots layers seat scene → IsSettled (sizes_of setup) scene → focus ≡ seat.focus
+    → Leads delivers a (closing focus) b
+    → Routes delivers a b seat layers layers (record { raised = None; changed = None; settled = false }) setup item.Close scene
+route-close {V = V} delivers a b setup spots layers seat focus scene is still told_is told =
+    let c = by_focus (focus_now scene) (subst (λ (o : Option RowId). Leads delivers a (closing o) b) (told_is ∙ focus-told setup.border spots layers seat (sizes_of setup) scene is still) told) in
+    stays-routes delivers a b seat layers setup item.Close scene false c.0 c.1 refl refl
+  where
+    by_focus : (o : Option RowId) → Leads delivers a (closing o) b → Carries delivers a b seat (close_by o scene) × Stays layers (close_by o scene)
+    by_focus None h = (record { has_seat = sym is.has_seat; leads = h }, record { has_layers = is.has_layers; no_place = refl })
+    by_focus (Some id) h = (record { has_seat = sym is.has_seat; leads = h }, record { has_layers = is.has_layers; no_place = refl })
+
+-- a row raised by Next
+pub route-next : {V : Type 0} (delivers : V → Delivery → V → Type 0) (a : V) (setup : Setup) (spots : RowId → Option Spot) (layers new : Layers) (seat : Seat) (row : Option RowId) (scene : Scene)
+    → Presents setup.border spots layers seat scene
     → row ≡ first_wanted Normal spots layers
     → IfSome row (λ id. IsTrue (is_in layers.focus id))
     → new ≡ raised_if row layers
-    → Routes delivers a a seat layers new (record { raised = row; changed = None }) (raise_by (find (λ row. is_shown row && not row.over) (listed scene)) scene)
-route-next {V = V} delivers a border spots layers new seat row scene is found here is_new =
-    by_row (find (λ r. is_shown r && not r.over) (listed scene)) row
-    (found ∙ ap (first_wanted Normal spots) (sym is.has_layers) ∙ sym (next-id border spots scene is.shows)) here is_new
+    → Routes delivers a a seat layers new (record { raised = row; changed = None; settled = false }) setup item.Next scene
+route-next {V = V} delivers a setup spots layers new seat row scene is found here is_new =
+    let row_is : row ≡ option_map id_of (find (λ r. is_shown r && not r.over) (listed scene)) =
+    found ∙ ap (first_wanted Normal spots) (sym is.has_layers) ∙ sym (next-id setup.border spots scene is.shows) in
+    let done = by_row (find (λ r. is_shown r && not r.over) (listed scene)) row row_is here is_new in
+    record { carries = done.carries; has_layers = done.has_layers; raises = done.raises; raised = row_is; changes = done.changes; settled = refl }
   where
     by_row : (o : Option Row) (r : Option RowId) → r ≡ option_map id_of o → IfSome r (λ id. IsTrue (is_in layers.focus id)) → new ≡ raised_if r layers
-        → Routes delivers a a seat layers new (record { raised = r; changed = None }) (raise_by o scene)
+        → RaisesRow delivers a a seat layers new r None (raise_by o scene)
     by_row None None e h n =
         record { carries = record { has_seat = sym is.has_seat; leads = refl }; has_layers = n ∙ sym is.has_layers; raises = is.has_layers; changes = refl }
     by_row None (Some id) e h n = absurd (cc)
@@ -155,19 +171,22 @@ route-next {V = V} delivers a border spots layers new seat row scene is found he
           changes = refl;
         }
 
-pub route-restore : {V : Type 0} (delivers : V → Delivery → V → Type 0) (a b : V) (border : ℕ) (spots : RowId → Option Spot) (layers new : Layers) (seat : Seat) (row : Option RowId) (scene : Scene)
-    → Presents border spots layers seat scene → AreMapped scene
+-- a row raised and shown again by Restore
+pub route-restore : {V : Type 0} (delivers : V → Delivery → V → Type 0) (a b : V) (setup : Setup) (spots : RowId → Option Spot) (layers new : Layers) (seat : Seat) (row : Option RowId) (scene : Scene)
+    → Presents setup.border spots layers seat scene → AreMapped scene
     → row ≡ last_wanted Hidden spots layers
     → IfSome row (λ id. IsTrue (is_in layers.focus id))
     → new ≡ raised_if row layers
     → Leads delivers a (restoring row) b
-    → Routes delivers a b seat layers new (record { raised = row; changed = row }) (restore_by (last_that is_hidden (listed scene)) scene)
-route-restore {V = V} delivers a b border spots layers new seat row scene is mapped found here is_new told =
-    by_row (last_that is_hidden (listed scene)) row
-    (found ∙ ap (last_wanted Hidden spots) (sym is.has_layers) ∙ sym (hidden-id border spots scene is.shows mapped)) here is_new told
+    → Routes delivers a b seat layers new (record { raised = row; changed = row; settled = false }) setup item.Restore scene
+route-restore {V = V} delivers a b setup spots layers new seat row scene is mapped found here is_new told =
+    let row_is : row ≡ option_map id_of (last_that is_hidden (listed scene)) =
+    found ∙ ap (last_wanted Hidden spots) (sym is.has_layers) ∙ sym (hidden-id setup.border spots scene is.shows mapped) in
+    let done = by_row (last_that is_hidden (listed scene)) row row_is here is_new told in
+    record { carries = done.carries; has_layers = done.has_layers; raises = done.raises; raised = row_is; changes = done.changes; settled = refl }
   where
     by_row : (o : Option Row) (r : Option RowId) → r ≡ option_map id_of o → IfSome r (λ id. IsTrue (is_in layers.focus id)) → new ≡ raised_if r layers → Leads delivers a (restoring r) b
-        → Routes delivers a b seat layers new (record { raised = r; changed = r }) (restore_by o scene)
+        → RaisesRow delivers a b seat layers new r r (restore_by o scene)
     by_row None None e h n t =
         record { carries = record { has_seat = sym is.has_seat; leads = t }; has_layers = n ∙ sym is.has_layers; raises = is.has_layers; changes = refl }
     by_row None (Some id) e h n t = absurd (cc)
@@ -181,27 +200,34 @@ route-restore {V = V} delivers a b border spots layers new seat row scene is map
           changes = ap Some same;
         }
 
-pub route-place : {V : Type 0} (delivers : V → Delivery → V → Type 0) (a b : V) (border : ℕ) (spots : RowId → Option Spot) (layers : Layers) (seat : Seat) (f : Rect → Rect) (row : Option RowId) (scene : Scene)
-    → Presents border spots layers seat scene
-    → Leads delivers a (placing f (place_in spots (last_wanted Normal spots layers))) b
-    → row ≡ option_map (λ (found : RowId × Rect). found.0) (place_in spots (last_wanted Normal spots layers))
-    → Routes delivers a b seat layers layers (record { raised = None; changed = row }) (place_by (focus_of scene.rows scene.layers) f scene)
-route-place {V = V} delivers a b border spots layers seat f row scene is told is_row =
-    let found : place_in spots (last_wanted Normal spots layers) ≡ option_map (λ r. (id_of r, r.place)) (focus_of scene.rows scene.layers) =
-    ap (λ (l : Layers). place_in spots (last_wanted Normal spots l)) (sym is.has_layers) ∙ focus-place border spots scene is.shows in
+-- the focus at another place
+pub route-place : {V : Type 0} (delivers : V → Delivery → V → Type 0) (a b : V) (setup : Setup) (spots : RowId → Option Spot) (layers : Layers) (seat : Seat) (f : Rect → Rect) (focus row : Option RowId) (scene : Scene) (event : Item)
+    → Presents setup.border spots layers seat scene → IsSettled (sizes_of setup) scene
+    → Places setup event scene f → focus ≡ seat.focus
+    → Leads delivers a (placing f (place_in spots focus)) b
+    → row ≡ option_map (λ (found : RowId × Rect). found.0) (place_in spots focus)
+    → Routes delivers a b seat layers layers (record { raised = None; changed = row; settled = false }) setup event scene
+route-place {V = V} delivers a b setup spots layers seat f focus row scene event is still places told_is told is_row =
+    let found : place_in spots focus ≡ option_map (λ r. (id_of r, r.place)) (focus_of scene.rows scene.layers) =
+    ap (place_in spots) (told_is ∙ focus-told setup.border spots layers seat (sizes_of setup) scene is still ∙ focus-id setup.border spots scene is.shows)
+    ∙ focus-place setup.border spots scene is.shows in
+    let done =
     by_row (focus_of scene.rows scene.layers)
     (subst (λ (p : Option (RowId × Rect)). Leads delivers a (placing f p) b) found told)
-    (is_row ∙ ap (option_map (λ (p : RowId × Rect). p.0)) found)
+    (is_row ∙ ap (option_map (λ (p : RowId × Rect). p.0)) found) in
+    let here : RaisesRow delivers a b seat layers layers None row (route setup event scene) =
+    subst (λ (o : InputOutcome). RaisesRow delivers a b seat layers layers None row o) (sym places.outcome) done in
+    record { carries = here.carries; has_layers = here.has_layers; raises = here.raises; raised = sym places.unraised; changes = here.changes; settled = sym places.unsaid }
   where
     by_row : (o : Option Row) → Leads delivers a (placing f (option_map (λ r. (id_of r, r.place)) o)) b
         → row ≡ option_map (λ (p : RowId × Rect). p.0) (option_map (λ r. (id_of r, r.place)) o)
-        → Routes delivers a b seat layers layers (record { raised = None; changed = row }) (place_by o f scene)
+        → RaisesRow delivers a b seat layers layers None row (place_by o f scene)
     by_row None t r =
         record { carries = record { has_seat = sym is.has_seat; leads = t }; has_layers = sym is.has_layers; raises = is.has_layers; changes = r }
     by_row (Some x) t r =
         record { carries = record { has_seat = sym is.has_seat; leads = t }; has_layers = sym is.has_layers; raises = is.has_layers; changes = r }
 
--- ---- a release
+-- ---- buttons
 
 release-stays : (grab : Option Grab) (code state : ℕ) (scene : Scene) → Stays scene.layers (release_by grab code state scene)
 release-stays None code state scene = record { has_layers = refl; no_place = refl }
@@ -212,22 +238,39 @@ release-stays (Some grab) code state scene = by_held (is_among code grab.buttons
     by_held true = record { has_layers = refl; no_place = refl }
     by_held false = record { has_layers = refl; no_place = refl }
 
-pub route-release : {V : Type 0} (delivers : V → Delivery → V → Type 0) (a b : V) (setup : Setup) (spots : RowId → Option Spot) (layers : Layers) (seat last : Seat) (down : Bool) (code state : ℕ) (scene : Scene)
+pub release-done : {V : Type 0} (delivers : V → Delivery → V → Type 0) (a b : V) (setup : Setup) (spots : RowId → Option Spot) (layers : Layers) (seat last : Seat) (down : Bool) (code state : ℕ) (scene : Scene)
     → Presents setup.border spots layers seat scene → down ≡ false
     → Carries delivers a b last (release_by scene.seat.grab code state scene)
-    → Routes delivers a b last layers layers (record { raised = None; changed = None }) (press setup down code state scene)
-route-release {V = V} delivers a b setup spots layers seat last down code state scene is up done =
+    → Presses delivers a b last layers layers None (raised_press setup down scene) (press setup down code state scene)
+release-done {V = V} delivers a b setup spots layers seat last down code state scene is up done =
     let stays = release-stays scene.seat.grab code state scene in
-    subst (λ (d : Bool). Routes delivers a b last layers layers (record { raised = None; changed = None }) (press setup d code state scene)) (sym up)
-    (stays-routes delivers a b last layers (release_by scene.seat.grab code state scene) done
-    (record { has_layers = stays.has_layers ∙ is.has_layers; no_place = stays.no_place }))
+    subst (λ (d : Bool). Presses delivers a b last layers layers None (raised_press setup d scene) (press setup d code state scene)) (sym up)
+    (record {
+      carries = done;
+      has_layers = sym (stays.has_layers ∙ is.has_layers);
+      raises = stays.has_layers ∙ is.has_layers;
+      raised = refl;
+      no_place = stays.no_place;
+    })
+
+pub route-press : {V : Type 0} (delivers : V → Delivery → V → Type 0) (a b : V) (setup : Setup) (before after : Layers) (last : Seat) (down : Bool) (code state : ℕ) (row : Option RowId) (scene : Scene)
+    → Presses delivers a b last before after row (raised_press setup down scene) (press setup down code state scene)
+    → Routes delivers a b last before after (record { raised = row; changed = None; settled = false }) setup (item.Press down code state) scene
+route-press delivers a b setup before after last down code state row scene is = record {
+  carries = is.carries;
+  has_layers = is.has_layers;
+  raises = is.raises;
+  raised = is.raised;
+  changes = sym is.no_place;
+  settled = refl;
+}
 
 -- ---- all of them
 
 -- for this item, with this answer
-pub at-item : {V : Type 0} (delivers : V → Delivery → V → Type 0) (a b : V) (last : Seat) (before after : Layers) (setup : Setup) (scene : Scene) (item it : Item) (routed : Routed) (raised_row changed_row : Option RowId)
-    → item ≡ it → routed ≡ record { raised = raised_row; changed = changed_row } → Routes delivers a b last before after (record { raised = raised_row; changed = changed_row }) (route setup it scene)
-    → Routes delivers a b last before after routed (route setup item scene)
-at-item {V = V} delivers a b last before after setup scene item it routed raised_row changed_row is_item is_routed done =
-    subst (λ (i : Item). Routes delivers a b last before after routed (route setup i scene)) (sym is_item)
-    (subst (λ (x : Routed). Routes delivers a b last before after x (route setup it scene)) (sym is_routed) done)
+pub at-item : {V : Type 0} (delivers : V → Delivery → V → Type 0) (a b : V) (last : Seat) (before after : Layers) (setup : Setup) (scene : Scene) (event it : Item) (routed answer : Routed)
+    → event ≡ it → routed ≡ answer → Routes delivers a b last before after answer setup it scene
+    → Routes delivers a b last before after routed setup event scene
+at-item {V = V} delivers a b last before after setup scene event it routed answer is_item is_routed done =
+    subst (λ (i : Item). Routes delivers a b last before after routed setup i scene) (sym is_item)
+    (subst (λ (x : Routed). Routes delivers a b last before after x setup it scene) (sym is_routed) done)

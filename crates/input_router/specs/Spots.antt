@@ -1,9 +1,8 @@
 -- What a desktop shows of its rows.
-use Rattle.std.specs.Prelude.{◌≡◌, ℕ, ◌≤◌, Bool, false, ◌&&◌, Option, Some, None, option_map, pos, negsuc, ◌≤ℤ◌}
+use Rattle.std.specs.Prelude.{◌≡◌, ℕ, Bool, false, ◌&&◌, Option, Some, None, option_map}
 use Rattle.gui_num.specs.declared.Point.{Point}
 use Rattle.gui_num.specs.declared.Rect.{Rect}
 use Rattle.gui_num.specs.Rects.{has}
-use Rattle.gui_wire.specs.declared.limits.TheConstants.{MAX_WINDOW_WIDTH, MAX_WINDOW_HEIGHT}
 use Rattle.desk_laws.specs.declared.row_id.RowId.{RowId}
 use Rattle.desk_laws.specs.Rows.{Row, row_at, is_shown, outer}
 use Rattle.desk_laws.specs.Scene.{Scene}

@@ -59,12 +59,12 @@ fn sized_to(place: Rect, w: i32, h: i32) -> Rect
     }
 }
 
-// The row that has the focus, with its place.
-fn focus_place<Q: Places>(stack: &Stacking, places: &Q) -> Option<(RowId, Rect)>
+// A row with its place.
+fn with_place<Q: Places>(row: Option<RowId>, places: &Q) -> Option<(RowId, Rect)>
     ensures range { IfSome result (λ found. IsPlace found.1) }
-    ensures is { result ≡ place_in (Q.spots places.now) (last_wanted Normal (Q.spots places.now) stack.now.layers) }
+    ensures is { result ≡ place_in (Q.spots places.now) row }
 {
-    match last_listed(stack, places, Wanted::Normal) {
+    match row {
         Some(id) => {
             match places.place(id) {
                 Some(place) => Some((id, place)),
@@ -89,16 +89,16 @@ fn tell_place<V: Deliver>(id: RowId, rect: Rect, to: &mut V)
 
 // Moves the row that has the focus, and answers it.
 pub(crate) fn move_focus<Q: Places, V: Deliver>(
+    focus: Option<RowId>,
     x: i32,
     y: i32,
-    stack: &Stacking,
     places: &Q,
     to: &mut V,
 ) -> Option<RowId>
-    ensures leads { Leads V.delivers to.old (placing (move_to x y) (place_in (Q.spots places.now) (last_wanted Normal (Q.spots places.now) stack.now.layers))) to.new }
-    ensures is { result ≡ option_map (λ found. found.0) (place_in (Q.spots places.now) (last_wanted Normal (Q.spots places.now) stack.now.layers)) }
+    ensures leads { Leads V.delivers to.old (placing (move_to x y) (place_in (Q.spots places.now) focus)) to.new }
+    ensures is { result ≡ option_map (λ found. found.0) (place_in (Q.spots places.now) focus) }
 {
-    match focus_place(stack, places) {
+    match with_place(focus, places) {
         Some((id, place)) => {
             tell_place(id, moved_to(place, x, y), to);
             Some(id)
@@ -109,16 +109,16 @@ pub(crate) fn move_focus<Q: Places, V: Deliver>(
 
 // Gives the row that has the focus another size, and answers it.
 pub(crate) fn size_focus<Q: Places, V: Deliver>(
+    focus: Option<RowId>,
     w: i32,
     h: i32,
-    stack: &Stacking,
     places: &Q,
     to: &mut V,
 ) -> Option<RowId>
-    ensures leads { Leads V.delivers to.old (placing (size_to w h) (place_in (Q.spots places.now) (last_wanted Normal (Q.spots places.now) stack.now.layers))) to.new }
-    ensures is { result ≡ option_map (λ found. found.0) (place_in (Q.spots places.now) (last_wanted Normal (Q.spots places.now) stack.now.layers)) }
+    ensures leads { Leads V.delivers to.old (placing (size_to w h) (place_in (Q.spots places.now) focus)) to.new }
+    ensures is { result ≡ option_map (λ found. found.0) (place_in (Q.spots places.now) focus) }
 {
-    match focus_place(stack, places) {
+    match with_place(focus, places) {
         Some((id, place)) => {
             tell_place(id, sized_to(place, w, h), to);
             Some(id)
@@ -128,10 +128,10 @@ pub(crate) fn size_focus<Q: Places, V: Deliver>(
 }
 
 // Asks the row that has the focus to close.
-pub(crate) fn close_focus<Q: Places, V: Deliver>(stack: &Stacking, places: &Q, to: &mut V)
-    ensures { Leads V.delivers to.old (closing (last_wanted Normal (Q.spots places.now) stack.now.layers)) to.new }
+pub(crate) fn close_focus<V: Deliver>(focus: Option<RowId>, to: &mut V)
+    ensures { Leads V.delivers to.old (closing focus) to.new }
 {
-    if let Some(id) = last_listed(stack, places, Wanted::Normal) {
+    if let Some(id) = focus {
         to.grant(id, &GIn::Close { window: id.window });
     }
 }

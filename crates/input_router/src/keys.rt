@@ -1,20 +1,16 @@
 // Keys: the two chords of the clipboard, and the keys of the focused row, of which those that are held
 // are noted.
-ghost use Rattle.std.specs.Prelude.{◌≡◌, ℕ, ◌&&◌, ◌==◌, [], ◌∷◌, true, false};
+ghost use Rattle.std.specs.Prelude.{◌≡◌, ◌&&◌, ◌==◌, [], ◌∷◌, true, false};
 ghost use Rattle.desk_laws.specs.declared.input.GIn.TheVariants as g;
 ghost use Rattle.desk_laws.specs.Events.{is_chord, plain_key, key_to, key_by};
-ghost use Rattle.desk_laws.specs.Scene.{Scene, Grants};
-ghost use Rattle.desk_laws.specs.Settle.{focus_now};
+ghost use Rattle.desk_laws.specs.Scene.{Grants};
 ghost use Rattle.input_router.specs.Commanded.{seated};
 ghost use Rattle.input_router.specs.Deliveries.{Leads};
-ghost use Rattle.input_router.specs.Presents.{Presents, Carries};
+ghost use Rattle.input_router.specs.Presents.{Carries};
 
 use crate::deliver::Deliver;
-use crate::places::Places;
 use crate::router::Router;
-use crate::walks::{Wanted, last_listed};
 use desk_laws::{GIn, RowId};
-use stacking::Stacking;
 
 // The keys C and V, by the codes that X11 has for them.
 const KEY_C: u8 = 54;
@@ -91,20 +87,11 @@ impl Router {
         }
     }
 
-    // A key, for the row that has the focus.
-    pub(crate) fn key<Q: Places, V: Deliver>(
-        &mut self,
-        down: bool,
-        code: u8,
-        state: u16,
-        stack: &Stacking,
-        places: &Q,
-        to: &mut V,
-    )
-        ensures { (border : ℕ) (scene : Scene) → Presents border (Q.spots places.now) stack.now.layers self.old scene
-            → Carries V.delivers to.old to.new self.new (key_by (focus_now scene) down code state scene) }
+    // A key, for the row that was last told that it has the focus.
+    pub(crate) fn key<V: Deliver>(&mut self, down: bool, code: u8, state: u16, to: &mut V)
+        ensures { Carries V.delivers to.old to.new self.new (key_by self.old.focus down code state (seated self.old)) }
     {
-        if let Some(id) = last_listed(stack, places, Wanted::Normal) {
+        if let Some(id) = self.focus {
             self.key_to(id, down, code, state, to);
         }
     }

@@ -1,14 +1,15 @@
 // The pointer: where it is, on which row, and what its moves and buttons are for the rows.
 ghost use Rattle.std.specs.Prelude.{◌≡◌, ℕ, ◌∷◌, [], ◌-ℤ◌, ◌≤ℤ◌, pos, negsuc, true, false, IsTrue, IfSome, Some, None, if◌then◌else◌};
 ghost use Rattle.desk_laws.specs.declared.setup.Setup.{Setup};
-ghost use Rattle.desk_laws.specs.Events.{grabbing, with_pointer, on_desktop, move, press, press_by, press_owner, press_row, release_by};
+ghost use Rattle.desk_laws.specs.Events.{grabbing, with_pointer, press, press_by, press_owner, press_row, release_by};
 ghost use Rattle.desk_laws.specs.Layers.{is_in, raised, topmost};
 ghost use Rattle.desk_laws.specs.Scene.{Scene};
+ghost use Rattle.desk_laws.specs.Settle.{same_id};
 ghost use Rattle.desk_laws.specs.Ranges.{IsPlace};
 ghost use Rattle.input_router.specs.Deliveries.{Leads};
 ghost use Rattle.input_router.specs.Pointed.{motion_in, moves_in, button_in, more_held};
 ghost use Rattle.input_router.specs.Presents.{Presents, Carries};
-ghost use Rattle.input_router.specs.Routes.{Routes};
+ghost use Rattle.input_router.specs.Routes.{normal_id, raised_at, raised_press, Presses};
 ghost use Rattle.input_router.specs.SeatView.{IsPixel};
 ghost use Rattle.input_router.specs.Seated.{from_spot, hover_of};
 ghost use Rattle.input_router.specs.Spots.{Shows, has_content, is_over_at};
@@ -108,21 +109,11 @@ impl Router {
         }
     }
 
-    // Tells the row that had the hover before a move of it, where it has it still.
-    fn tell_motion<Q: Places, V: Deliver>(
-        &self,
-        before: Option<RowId>,
-        state: u16,
-        stack: &Stacking,
-        places: &Q,
-        to: &mut V,
-    )
-        ensures { Leads V.delivers to.old (moves_in (Q.spots places.now) self.now.pointer state before (hover_of (Q.spots places.now) stack.now.layers self.now.grab self.now.pointer)) to.new }
+    // Tells the row that has the hover of a move.
+    fn tell_motion<Q: Places, V: Deliver>(&self, state: u16, places: &Q, to: &mut V)
+        ensures { Leads V.delivers to.old (motion_in (Q.spots places.now) self.now.pointer state self.now.hover) to.new }
     {
-        let Some(id) = before else {
-            return;
-        };
-        if same(before, self.hover_now(stack, places)) {
+        if let Some(id) = self.hover {
             let at = inside(places, id, self.pointer);
             let motion = GIn::Motion {
                 window: id.window,
@@ -158,7 +149,7 @@ impl Router {
         to.grant(id, &event);
     }
 
-    // The pointer moves to this pixel of the desktop.
+    // The pointer moves to this pixel of the desktop. Answers whether the hover is the one last told.
     pub(crate) fn point<Q: Places, V: Deliver>(
         &mut self,
         p: Point,
@@ -166,14 +157,18 @@ impl Router {
         stack: &Stacking,
         places: &Q,
         to: &mut V,
-    )
+    ) -> bool
         requires { IsPixel p }
-        ensures { (setup : Setup) (scene : Scene) → Presents setup.border (Q.spots places.now) stack.now.layers self.old scene → IsTrue (on_desktop setup p)
-            → Carries V.delivers to.old to.new self.new (move setup p state scene) }
+        ensures seat { self.new ≡ with_pointer p self.old }
+        ensures leads { Leads V.delivers to.old (moves_in (Q.spots places.now) (Some p) state self.old.hover (hover_of (Q.spots places.now) stack.now.layers self.old.grab (Some p))) to.new }
+        ensures is { result ≡ same_id self.old.hover (hover_of (Q.spots places.now) stack.now.layers self.old.grab (Some p)) }
     {
-        let before = self.hover_now(stack, places);
         self.put_pointer(p);
-        self.tell_motion(before, state, stack, places, to);
+        if !same(self.hover, self.hover_now(stack, places)) {
+            return false;
+        }
+        self.tell_motion(state, places, to);
+        true
     }
 
     // Grabs a row whose content has the pixel, and tells it of the button.
@@ -206,9 +201,9 @@ impl Router {
         to: &mut V,
     ) -> Option<RowId>
         ensures rows { stack.new.rows ≡ stack.old.rows }
-        ensures routes { (setup : Setup) (scene : Scene) → Presents setup.border (Q.spots places.now) stack.old.layers self.old scene
-            → Routes V.delivers to.old to.new self.new stack.old.layers stack.new.layers (record { raised = result; changed = None })
-            (press_owner (topmost setup.border scene.rows scene.layers p) p button state scene) }
+        ensures presses { (setup : Setup) (scene : Scene) → Presents setup.border (Q.spots places.now) stack.old.layers self.old scene
+            → Presses V.delivers to.old to.new self.new stack.old.layers stack.new.layers result
+            (normal_id (topmost setup.border scene.rows scene.layers p)) (press_owner (topmost setup.border scene.rows scene.layers p) p button state scene) }
     {
         match top_at(stack, places, p) {
             Some(id) => {
@@ -245,9 +240,9 @@ impl Router {
         to: &mut V,
     ) -> Option<RowId>
         ensures rows { stack.new.rows ≡ stack.old.rows }
-        ensures routes { (setup : Setup) (scene : Scene) → Presents setup.border (Q.spots places.now) stack.old.layers self.old scene
-            → Routes V.delivers to.old to.new self.new stack.old.layers stack.new.layers (record { raised = result; changed = None })
-            (press_by setup scene.seat.pointer scene.seat.grab button state scene) }
+        ensures presses { (setup : Setup) (scene : Scene) → Presents setup.border (Q.spots places.now) stack.old.layers self.old scene
+            → Presses V.delivers to.old to.new self.new stack.old.layers stack.new.layers result
+            (raised_at setup scene.seat.pointer scene.seat.grab scene) (press_by setup scene.seat.pointer scene.seat.grab button state scene) }
     {
         let p = self.pointer()?;
         match self.grabbed() {
@@ -281,9 +276,9 @@ impl Router {
         to: &mut V,
     ) -> Option<RowId>
         ensures rows { stack.new.rows ≡ stack.old.rows }
-        ensures routes { (setup : Setup) (scene : Scene) → Presents setup.border (Q.spots places.now) stack.old.layers self.old scene
-            → Routes V.delivers to.old to.new self.new stack.old.layers stack.new.layers (record { raised = result; changed = None })
-            (press setup down button state scene) }
+        ensures presses { (setup : Setup) (scene : Scene) → Presents setup.border (Q.spots places.now) stack.old.layers self.old scene
+            → Presses V.delivers to.old to.new self.new stack.old.layers stack.new.layers result
+            (raised_press setup down scene) (press setup down button state scene) }
     {
         if down {
             return self.press(button, state, stack, places, to);

@@ -262,12 +262,19 @@ impl Desk {
         })
     }
 
+    // Routes an event, and answers what came of it.
+    fn routed(&mut self, item: Item) -> Routed
+        requires { HasPixel item }
+    {
+        self.router
+            .route(&item, &mut self.stack, &self.rows, &mut self.log)
+    }
+
     // Routes an event, and answers what was told.
     fn route(&mut self, item: Item) -> [Told; 6]
         requires { HasPixel item }
     {
-        self.router
-            .route(&item, &mut self.stack, &self.rows, &mut self.log);
+        self.routed(item);
         self.log.take()
     }
 
@@ -359,6 +366,53 @@ fn keys_and_the_focus(rt: HostRuntime) -> Result<(), NoMemory> {
     Ok(())
 }
 
+// What came of an event that changed no place.
+fn came(raised: Option<RowId>, settled: bool) -> Routed {
+    Routed {
+        raised,
+        changed: None,
+        settled,
+    }
+}
+
+// A button goes down, and comes up again.
+fn click(desk: &mut Desk) -> Routed {
+    let pressed = desk.routed(Item::Press {
+        down: true,
+        button: 1,
+        state: 0,
+    });
+    desk.settle();
+    desk.press(false, 1);
+    pressed
+}
+
+// A row is named each time that it is raised, also where it is on top; a move is settled where the hover
+// stays.
+#[test]
+fn what_came_of_events(rt: HostRuntime) -> Result<(), NoMemory> {
+    let mut desk = Desk::new(rt.alloc())?;
+    desk.settle();
+    let enters = Item::Move {
+        x: 25,
+        y: 15,
+        state: 0,
+    };
+    assert_eq!(rt; desk.routed(enters), came(None, false));
+    desk.settle();
+    assert_eq!(rt; desk.routed(enters), came(None, true));
+    assert_eq!(rt; click(&mut desk), came(Some(B), false));
+    assert_eq!(rt; click(&mut desk), came(Some(B), false));
+    assert_eq!(rt; desk.routed(Item::Next), came(Some(A), false));
+    let key = Item::Key {
+        down: true,
+        code: 38,
+        state: 0,
+    };
+    assert_eq!(rt; desk.routed(key), came(None, true));
+    Ok(())
+}
+
 fn place(id: RowId, rect: Rect) -> Told {
     let window = id.window;
     Told::Granted(id, GIn::Place { window, rect })
@@ -380,6 +434,7 @@ fn commands(rt: HostRuntime) -> Result<(), NoMemory> {
         w: 1,
         h: 6144,
     };
+    desk.settle();
     assert_eq!(rt;
         desk.route(Item::MoveTo { x: 40000, y: -5 }),
         only(&[place(A, moved)])
@@ -393,7 +448,10 @@ fn commands(rt: HostRuntime) -> Result<(), NoMemory> {
         only(&[Told::Granted(A, GIn::Close { window: 1 })])
     );
     desk.rows.a.shown = false;
-    assert_eq!(rt; desk.settle(), only(&[focus(B, true), keymap(B)]));
+    assert_eq!(rt;
+        desk.settle(),
+        only(&[focus(A, false), focus(B, true), keymap(B)])
+    );
     assert_eq!(rt;
         desk.route(Item::Restore),
         only(&[Told::Granted(A, GIn::Restored { window: 1 })])
