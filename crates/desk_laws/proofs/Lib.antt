@@ -15,6 +15,7 @@ pub mod SettleLemmas
 pub mod SettledLemmas
 pub mod ListedLemmas
 pub mod LimitLemmas
+pub mod EventLayers
 pub mod EventLemmas
 pub mod SoundLemmas
 pub mod UnitLemmas
