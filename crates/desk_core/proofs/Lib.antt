@@ -22,3 +22,6 @@ pub mod PaintLemmas
 pub mod LayerLemmas
 pub mod DeskTurns
 pub mod DeskEnds
+pub mod GrantScenes
+pub mod SceneLemmas
+pub mod SettledScenes

@@ -1,4 +1,7 @@
 pub mod Panes
+pub mod Places
+pub mod Queued
+pub mod Scenes
 pub mod ShownView
 pub mod Painting
 pub mod DeskPosts

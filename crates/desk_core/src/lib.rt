@@ -5,8 +5,12 @@
 //! All memory is taken as a desk is opened.
 #![tactic(auto)]
 
+mod deliveries;
 mod desk;
+mod grants;
 mod panes;
+mod places;
+mod settle;
 mod stack;
 #[cfg(test)]
 mod tests;

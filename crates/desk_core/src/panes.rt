@@ -36,7 +36,7 @@ impl Model for Shown {
 }
 
 // Whether a window is shown: mapped and not hidden.
-fn is_shown(pane: &Pane) -> bool
+pub(crate) fn is_shown(pane: &Pane) -> bool
     ensures { result ≡ is_shown_window pane.now }
 {
     pane.mapped && pane.flags / WINDOW_FLAG_MINIMIZE % 2 != 1
