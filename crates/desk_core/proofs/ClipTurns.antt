@@ -19,9 +19,10 @@ use Rattle.guest_session.specs.declared.turn.Turn.TheVariants as turns
 use Rattle.guest_session.specs.SessionView.{SessionView, AreRows, with_stream}
 use Rattle.guest_session.specs.Clips.{is_clip}
 use Rattle.guest_session.specs.Turns.{Turns, TakesUnit, Decides, window_of}
-use Rattle.desk_core.specs.DeskView.{PartView}
-use Rattle.desk_core.specs.DeskStands.{PartStands}
-use Rattle.desk_core.specs.PieceSteps.{TookSome}
+use Rattle.desk_core.specs.WindowsView.{PartView}
+use Rattle.desk_core.specs.WindowsStand.{PartStands}
+use Rattle.desk_core.specs.declared.windows.Told.TheVariants as answers
+use Rattle.desk_core.specs.Telling.{TookTold}
 use Rattle.desk_laws.proofs.FollowChanges.{followed-same}
 use Rattle.desk_core.proofs.StandLemmas.{moved}
 use Rattle.desk_core.proofs.UnitTurns.{went-took}
@@ -76,13 +77,13 @@ pub clip-took : {O : Type 0} (takes : O → Post → O → Type 0) (out : O) (se
     → PartStands setup guest held part port state → part.session.ended ≡ None → front part.session.stream.greeted held ≡ Takes unit behind → is_clip unit ≡ true
     → new ≡ with_stream new.stream part.session → new.stream.greeted ≡ true → StandsFor new.stream behind → port' ≡ port
     → messages ≡ counted (part.messages + 1)
-    → TookSome takes out out setup guest held part (moved new part.layers messages part.glances) port' state
+    → TookTold takes out out answers.Changed setup guest held part (moved new part.layers messages part.glances) port' state
 clip-took takes out setup guest held behind part new messages port port' state unit stands going is clip same greeted holds unread count =
     let s = part.session in
     let rows : s.rows ≡ new.rows = sym (ap (λ (x : SessionView). x.rows) same) in
     let O : List Row → Type 0 = λ rs. AreRows guest rs in
     let still : part.glances ≡ counted (part.glances + 0) = omega (arith, stands.glances_in_range) in
-    went-took takes out out setup guest held behind part new part.layers messages part.glances port port' state unit (Goes Same []) [] stands going is
+    went-took takes out out answers.Changed setup guest held behind part new part.layers messages part.glances port port' state unit (Goes Same []) [] stands going is
     (clip-verdict s.sizes s.guest s.minor s.rows unit clip) refl refl
     (record {
       rows = stands.rows ∙ rows;
@@ -96,4 +97,4 @@ clip-took takes out setup guest held behind part new messages port port' state u
     })
     (subst O rows stands.own)
     (record { lists = followed-same state.scene.rows part.layers stands.followed; follow = stands.followed; apart = stands.apart })
-    (record { told = count ∙ ap (λ n. counted (part.messages + n)) (sym (clip-message unit clip)); read = still }) greeted refl
+    (record { told = count ∙ ap (λ n. counted (part.messages + n)) (sym (clip-message unit clip)); read = still }) greeted refl (λ quiet _. cc)

@@ -9,15 +9,20 @@ use Rattle.desk_laws.specs.Frames.{PortState}
 use Rattle.desk_laws.specs.Effects.{Cleared, changed}
 use Rattle.desk_laws.specs.Following.{LayersFollow, FollowsEnd, without_guest}
 use Rattle.desk_laws.specs.Scene.{Input}
-use Rattle.desk_laws.specs.State.{DeskState, Session, session_of, with_session}
-use Rattle.desk_laws.specs.Steps.{ends}
+use Rattle.desk_laws.specs.State.{DeskState, Session, StepOutcome, on_desk, session_of, with_session}
+use Rattle.desk_laws.specs.Steps.{end_told}
 use Rattle.desk_laws.proofs.UnitLemmas.{session-put}
 use Rattle.desk_laws.proofs.FollowChanges.{lists-follow_end}
 use Rattle.guest_session.specs.SessionView.{SessionView, AreRows, IsEnded}
-use Rattle.desk_core.specs.DeskView.{PartView}
-use Rattle.desk_core.specs.DeskStands.{PartStands}
+use Rattle.desk_core.specs.WindowsView.{PartView}
+use Rattle.desk_core.specs.WindowsStand.{PartStands}
 use Rattle.desk_core.proofs.OwnRows.{mine-cleared}
 use Rattle.desk_core.proofs.StandLemmas.{moved}
+
+-- what a session's end tells, before focus and hover are told
+abbrev pub ended_told : ℕ → Input → Cause → DeskState → StepOutcome
+ended_told guest input cause state =
+    on_desk (end_told guest input cause state.scene) [] (with_session guest (record (session_of guest state) { rest = []; ended = Some cause }) state)
 
 pub no-rows : (guest : ℕ) → AreRows guest []
 no-rows guest = record {
@@ -29,7 +34,7 @@ no-rows guest = record {
 
 pub ends-stands : (setup : Setup) (guest : ℕ) (held behind : List ℕ) (part : PartView) (new : SessionView) (port port' : PortState) (state : DeskState) (input : Input) (cause : Cause)
     → PartStands setup guest held part port state → IsEnded part.session cause new → port' ≡ port
-    → PartStands setup guest behind (moved new (without_guest guest part.layers) part.messages part.glances) port' (ends setup guest input cause state).desk
+    → PartStands setup guest behind (moved new (without_guest guest part.layers) part.messages part.glances) port' (ended_told guest input cause state).desk
 ends-stands setup guest held behind part new port port' state input cause stands over unread =
     let session : Session = record (session_of guest state) { rest = []; ended = Some cause } in
     let put : session_of guest (with_session guest session state) ≡ session = session-put guest session state stands.there in

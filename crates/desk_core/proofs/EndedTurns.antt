@@ -13,8 +13,8 @@ use Rattle.desk_laws.specs.Frames.{PortState}
 use Rattle.desk_laws.specs.Effects.{Goes, Greets, Ends, Reads, Verdict, verdict}
 use Rattle.desk_laws.specs.Following.{without_guest}
 use Rattle.desk_laws.specs.Scene.{Post, Ended, Took}
-use Rattle.desk_laws.specs.State.{DeskState, StepOutcome, session_of, step_after}
-use Rattle.desk_laws.specs.Steps.{take_unit, take_units, ends}
+use Rattle.desk_laws.specs.State.{DeskState, session_of, step_after}
+use Rattle.desk_laws.specs.Steps.{take_unit, take_units}
 use Rattle.desk_laws.proofs.Cutting.{front_by-append, front_by-whole_header, header_at-append}
 use Rattle.desk_laws.proofs.CuttingLemmas.{cut-takes, cut-faults}
 use Rattle.desk_laws.proofs.UnitLemmas.{taken-by, units-left}
@@ -22,12 +22,14 @@ use Rattle.guest_session.specs.declared.turn.Turn.TheVariants as turns
 use Rattle.guest_session.specs.SessionView.{SessionView, IsEnded}
 use Rattle.guest_session.specs.Clips.{is_clip}
 use Rattle.guest_session.specs.Turns.{Turns, TakesUnit, Decides, window_of}
-use Rattle.desk_core.specs.DeskView.{PartView}
-use Rattle.desk_core.specs.DeskStands.{PartStands, LeadsTo}
-use Rattle.desk_core.specs.PieceSteps.{TookSome}
+use Rattle.desk_core.specs.WindowsView.{PartView}
+use Rattle.desk_core.specs.WindowsStand.{PartStands}
+use Rattle.desk_core.specs.declared.windows.Told.TheVariants as answers
+use Rattle.desk_core.specs.Settling.{settled_after}
+use Rattle.desk_core.specs.Telling.{TookTold}
 use Rattle.desk_core.proofs.StandLemmas.{moved}
-use Rattle.desk_core.proofs.EndStands.{ends-stands}
-use Rattle.desk_core.proofs.LeaveLemmas.{unit-leaves}
+use Rattle.desk_core.proofs.EndStands.{ended_told, ends-stands}
+use Rattle.desk_core.proofs.LeaveLemmas.{ends-leaves}
 use Rattle.desk_core.proofs.UnitTurns.{verdict-same}
 
 -- what comes of a fault, or of a unit that ends the session: whatever bytes follow, the session has ended
@@ -36,28 +38,29 @@ pub ended-took : {O : Type 0} (takes : O → Post → O → Type 0) (out out' : 
     → ((left : List ℕ) → (others : List StreamUnit) × ((cut part.session.stream.greeted (held ++ left)).units ≡ unit ∷ others))
     → verdict part.session.sizes part.session.guest part.session.minor part.session.rows unit ≡ Ends cause
     → IsEnded part.session cause new → port' ≡ port → takes out (Ended guest cause) out'
-    → TookSome takes out out' setup guest held part (moved new (without_guest guest part.layers) part.messages part.glances) port' state
+    → TookTold takes out out' answers.Ended setup guest held part (moved new (without_guest guest part.layers) part.messages part.glances) port' state
 ended-took takes out out' setup guest held part new port port' state unit cause stands going cuts v_is over unread told =
     let last = moved new (without_guest guest part.layers) part.messages part.glances in
-    let o = take_unit setup guest unit state in
-    let e = ends setup guest (Took unit) cause state in
-    let taken : o ≡ e = taken-by setup guest unit state (Ends cause) (stands.ended ∙ going) (verdict-same setup guest held part port state unit stands going ∙ v_is) in
+    let e = ended_told guest (Took unit) cause state in
+    let o = settled_after setup e in
+    let taken : take_unit setup guest unit state ≡ o = taken-by setup guest unit state (Ends cause) (stands.ended ∙ going) (verdict-same setup guest held part port state unit stands going ∙ v_is) in
     let stood : PartStands setup guest [] last port' e.desk = ends-stands setup guest held [] part new port port' state (Took unit) cause stands over unread in
-    let P : StepOutcome → Type 0 = λ x. LeadsTo takes out out' setup guest [] last port' x in
-    let led : LeadsTo takes out out' setup guest [] last port' o = subst P (sym taken) (stood, (out', told, refl)) in
-    let gone : (session_of guest o.desk).ended ≡ Some cause = led.0.ended ∙ over.ended in
+    let gone : (session_of guest o.desk).ended ≡ Some cause = stood.ended ∙ over.ended in
     record {
       behind = [];
-      outcome = o;
-      leads = led;
-      all = λ left.
+      told = e;
+      leads = (stood, (out', told, refl));
+      still = λ quiet _. cc;
+      seat = refl;
+      all = λ _ left.
           let c = cuts left in
           ap (λ us. take_units setup guest us state) c.1
+          ∙ ap (λ x. step_after x (take_units setup guest c.0 x.desk)) taken
           ∙ ap (step_after o) (units-left setup guest c.0 o.desk cause gone ∙ sym (units-left setup guest (cut new.stream.greeted ([] ++ left)).units o.desk cause gone));
       going = λ _. going;
       rest = λ still left. let x = over.ended in absurd (cc);
       kept = λ still. let x = over.ended in absurd (cc);
-      leaves = unit-leaves setup guest unit state;
+      leaves = ends-leaves guest (Took unit) cause state;
     }
 
 fault-of : (c : Option Cause) (header : Header) (bytes : List ℕ) (cause : Cause) → front_of c header bytes ≡ Fault cause → c ≡ Some cause
@@ -99,7 +102,7 @@ told-cause cause cause' e = cc
 pub turn-ended : {O : Type 0} (takes : O → Post → O → Type 0) (out mid out' : O) (setup : Setup) (guest : ℕ) (held : List ℕ) (part : PartView) (new : SessionView) (cause : Cause) (port port' : PortState) (state : DeskState) (f : Front)
     → PartStands setup guest held part port state → part.session.ended ≡ None → front part.session.stream.greeted held ≡ f
     → Turns takes out mid port port' part.session new (turns.Ended cause) f → takes mid (Ended guest cause) out'
-    → TookSome takes out out' setup guest held part (moved new (without_guest guest part.layers) part.messages part.glances) port' state
+    → TookTold takes out out' answers.Ended setup guest held part (moved new (without_guest guest part.layers) part.messages part.glances) port' state
 turn-ended {O = O} takes out mid out' setup guest held part new cause port port' state stream.Wait stands going is t told = let e = t.answer in absurd (cc)
 turn-ended {O = O} takes out mid out' setup guest held part new cause port port' state (Fault c) stands going is t told =
     let C : Cause → Type 0 = λ x. takes mid (Ended guest x) out' in
@@ -114,7 +117,7 @@ turn-ended {O = O} takes out mid out' setup guest held part new cause port port'
 
     by_verdict : (v : Verdict) → verdict part.session.sizes part.session.guest part.session.minor part.session.rows unit ≡ v
         → Decides takes out mid port port' part.session new (turns.Ended cause) (window_of unit) behind v
-        → TookSome takes out out' setup guest held part (moved new (without_guest guest part.layers) part.messages part.glances) port' state
+        → TookTold takes out out' answers.Ended setup guest held part (moved new (without_guest guest part.layers) part.messages part.glances) port' state
     by_verdict (Ends c) v_is d =
         let C : Cause → Type 0 = λ x. takes mid (Ended guest x) out' in
         let M : O → Type 0 = λ m. takes m (Ended guest c) out' in
@@ -128,6 +131,6 @@ turn-ended {O = O} takes out mid out' setup guest held part new cause port port'
     by_verdict (Goes change answers) v_is d = let e = d.answer in absurd (cc)
     by_verdict (Reads row area) v_is d = let e = d.answer in absurd (cc)
 
-    by_clip : (b : Bool) → TakesUnit takes out mid port port' part.session new (turns.Ended cause) unit behind b → TookSome takes out out' setup guest held part (moved new (without_guest guest part.layers) part.messages part.glances) port' state
+    by_clip : (b : Bool) → TakesUnit takes out mid port port' part.session new (turns.Ended cause) unit behind b → TookTold takes out out' answers.Ended setup guest held part (moved new (without_guest guest part.layers) part.messages part.glances) port' state
     by_clip true t = absurd (not-ended cause _ t.answer)
     by_clip false t = by_verdict (verdict part.session.sizes part.session.guest part.session.minor part.session.rows unit) refl t

@@ -11,15 +11,12 @@ use Rattle.desk_laws.specs.Frames.{PortState}
 use Rattle.desk_laws.specs.State.{DeskState, Session, session_of}
 use Rattle.desk_laws.proofs.FollowChanges.{follow-few}
 use Rattle.guest_session.specs.SessionView.{SessionView}
-use Rattle.desk_core.specs.DeskView.{DeskView, PartView, ChangesPart, guests_of, no_session, pages_of, part_of, session_in, with_part}
-use Rattle.desk_core.specs.DeskStands.{PartStands, StandsWith, IsAtRest, HasNumbers, rests_of}
-use Rattle.desk_core.specs.PieceSteps.{LeavesOthers}
+use Rattle.desk_core.specs.WindowsView.{WindowsView, PartView, ChangesPart, guests_of, no_session, pages_of, part_of, put, session_in, with_part}
+use Rattle.desk_core.specs.WindowsStand.{PartStands, StandsWith, AreAtRest, HasNumbers, rests_of}
+use Rattle.desk_core.specs.Pieces.{LeavesOthers}
 use Rattle.desk_core.proofs.OwnRows.{itself, rows-few}
 
 -- ---- one value for a guest, and others for the others
-
-abbrev pub put : {A : Type 0} → ℕ → A → (ℕ → A) → ℕ → A
-put guest x f g = if g == guest then x else f g
 
 pub put-same : {A : Type 0} (guest : ℕ) (x : A) (f : ℕ → A) → put guest x f guest ≡ x
 put-same guest x f = ap (λ b. if b then x else f guest) (itself guest)
@@ -33,10 +30,10 @@ put-other guest x f g apart = ap (λ b. if b then x else f g) (differs g guest a
 -- ---- a guest's part of the desk
 
 -- the desk with another part has it, and nothing else is changed
-pub part-in : (guest : ℕ) (part : PartView) (desk : DeskView) → guest < guests_of desk → part_of guest (with_part guest part desk) ≡ part
+pub part-in : (guest : ℕ) (part : PartView) (desk : WindowsView) → guest < guests_of desk → part_of guest (with_part guest part desk) ≡ part
 part-in guest part desk there = ap (λ (s : SessionView). record part { session = s }) (get_or-set_same desk.sessions guest part.session no_session there)
 
-pub part-alone : (guest : ℕ) (part : PartView) (desk : DeskView) → guest < guests_of desk → part.session.sizes ≡ (session_in guest desk).sizes → ChangesPart guest desk (with_part guest part desk)
+pub part-alone : (guest : ℕ) (part : PartView) (desk : WindowsView) → guest < guests_of desk → part.session.sizes ≡ (session_in guest desk).sizes → ChangesPart guest desk (with_part guest part desk)
 part-alone guest part desk there sizes = record {
   rest = refl;
   guests = length-set desk.sessions guest part.session;
@@ -44,18 +41,18 @@ part-alone guest part desk there sizes = record {
   others = λ other apart. get_or-set_other desk.sessions guest other part.session no_session apart;
 }
 
-pub alone-none : (guest : ℕ) (desk : DeskView) → ChangesPart guest desk desk
+pub alone-none : (guest : ℕ) (desk : WindowsView) → ChangesPart guest desk desk
 alone-none guest desk = record { rest = refl; guests = refl; sizes = refl; others = λ other apart. refl }
 
-pub alone-both : (guest : ℕ) (a b c : DeskView) → ChangesPart guest a b → ChangesPart guest b c → ChangesPart guest a c
+pub alone-both : (guest : ℕ) (a b c : WindowsView) → ChangesPart guest a b → ChangesPart guest b c → ChangesPart guest a c
 alone-both guest a b c first next = record {
-  rest = next.rest ∙ ap (λ (d : DeskView). record d { sessions = c.sessions; layers = c.layers; messages = c.messages; glances = c.glances }) first.rest;
+  rest = next.rest ∙ ap (λ (d : WindowsView). record d { sessions = c.sessions; layers = c.layers; messages = c.messages; glances = c.glances }) first.rest;
   guests = next.guests ∙ first.guests;
   sizes = next.sizes ∙ first.sizes;
   others = λ other apart. next.others other apart ∙ first.others other apart;
 }
 
-pub alone-pages : (guest : ℕ) (old new : DeskView) → ChangesPart guest old new → pages_of new ≡ pages_of old
+pub alone-pages : (guest : ℕ) (old new : WindowsView) → ChangesPart guest old new → pages_of new ≡ pages_of old
 alone-pages guest old new alone = by_guest (0 == guest) refl
   where
     by_guest : (b : Bool) → (0 == guest) ≡ b → pages_of new ≡ pages_of old
@@ -97,17 +94,17 @@ other-stands setup guest other held behind part new port port' before after apar
     }
 
 -- a guest's new part in the place of its old one
-pub join : (setup : Setup) (guest : ℕ) (held held' : ℕ → List ℕ) (desk desk' : DeskView) (frames frames' : ℕ → PortState) (before after : DeskState)
+pub join : (setup : Setup) (guest : ℕ) (held held' : ℕ → List ℕ) (desk desk' : WindowsView) (frames frames' : ℕ → PortState) (before after : DeskState)
     → StandsWith setup held desk frames before → PartStands setup guest (held' guest) (part_of guest desk') (frames' guest) after → LeavesOthers guest before after → ChangesPart guest desk desk'
     → ((other : ℕ) → other ≢ guest → held' other ≡ held other) → ((other : ℕ) → other ≢ guest → frames' other ≡ frames other)
     → StandsWith setup held' desk' frames' after
 join setup guest held held' desk desk' frames frames' before after stands own leaves alone kept unread = record {
   numbers = record {
-    width = ap (λ (d : DeskView). d.picture.width) alone.rest ∙ n.width;
-    height = ap (λ (d : DeskView). d.picture.height) alone.rest ∙ n.height;
-    background = ap (λ (d : DeskView). d.picture.background) alone.rest ∙ n.background;
-    border = ap (λ (d : DeskView). d.border) alone.rest ∙ n.border;
-    labels = λ g below. ap (λ (d : DeskView). slice_get d.labels g) alone.rest ∙ n.labels g below;
+    width = ap (λ (d : WindowsView). d.picture.width) alone.rest ∙ n.width;
+    height = ap (λ (d : WindowsView). d.picture.height) alone.rest ∙ n.height;
+    background = ap (λ (d : WindowsView). d.picture.background) alone.rest ∙ n.background;
+    border = ap (λ (d : WindowsView). d.border) alone.rest ∙ n.border;
+    labels = λ g below. ap (λ (d : WindowsView). slice_get d.labels g) alone.rest ∙ n.labels g below;
     wide = n.wide;
     narrow = n.narrow;
     guests = alone.guests ∙ n.guests;
@@ -119,7 +116,7 @@ join setup guest held held' desk desk' frames frames' before after stands own le
   known = λ g above.
       let apart : g ≢ guest = λ same. omega (arith, same, above, own.there, leaves.sessions, stands.count) in
       (leaves.others g apart).rows ∙ stands.known g above;
-  items = leaves.items ∙ stands.items ∙ sym (ap (λ (d : DeskView). d.items) alone.rest);
+  items = leaves.items ∙ stands.items ∙ sym (ap (λ (d : WindowsView). d.items) alone.rest);
 }
   where
     n : HasNumbers setup desk
@@ -138,11 +135,11 @@ join setup guest held held' desk desk' frames frames' before after stands own le
         subst F (sym (unread g apart)) (subst H (sym (kept g apart)) (subst S (sym (alone.others g apart)) left))
 
 -- the same between items: the guest's session waits, too
-pub join-rest : (setup : Setup) (guest : ℕ) (desk desk' : DeskView) (frames frames' : ℕ → PortState) (before after : DeskState)
-    → IsAtRest setup desk frames before → PartStands setup guest (session_of guest after).rest (part_of guest desk') (frames' guest) after
+pub join-rest : (setup : Setup) (guest : ℕ) (desk desk' : WindowsView) (frames frames' : ℕ → PortState) (before after : DeskState)
+    → AreAtRest setup desk frames before → PartStands setup guest (session_of guest after).rest (part_of guest desk') (frames' guest) after
     → ((session_in guest desk').ended ≡ None → front (session_in guest desk').stream.greeted (session_of guest after).rest ≡ Wait)
     → LeavesOthers guest before after → ChangesPart guest desk desk' → ((other : ℕ) → other ≢ guest → frames' other ≡ frames other)
-    → IsAtRest setup desk' frames' after
+    → AreAtRest setup desk' frames' after
 join-rest setup guest desk desk' frames frames' before after rests own waits leaves alone unread = record {
   with_rest = join setup guest (rests_of before) (rests_of after) desk desk' frames frames' before after rests.with_rest own leaves alone
       (λ other apart. ap (λ (s : Session). s.rest) (leaves.others other apart).session) unread;
@@ -161,7 +158,7 @@ join-rest setup guest desk desk' frames frames' before after rests own waits lea
 
 -- ---- what is known of a desk that stands
 
-module _ (setup : Setup) (held : ℕ → List ℕ) (desk : DeskView) (frames : ℕ → PortState) (state : DeskState) (stands : StandsWith setup held desk frames state) where
+module _ (setup : Setup) (held : ℕ → List ℕ) (desk : WindowsView) (frames : ℕ → PortState) (state : DeskState) (stands : StandsWith setup held desk frames state) where
   pub guest-known : (guest : ℕ) → guest < guests_of desk → guest < length setup.guests
   guest-known guest there = omega (arith, there, stands.numbers.guests)
 
@@ -178,3 +175,55 @@ module _ (setup : Setup) (held : ℕ → List ℕ) (desk : DeskView) (frames : �
       λ guest below. let p = stands.parts guest below in omega (arith, ap length p.rows, p.own.few) in
       let all : length state.scene.rows ≤ 1024 * length setup.guests = rows-few (length setup.guests) 1024 state.scene.rows own stands.known in
       omega (arith, follow-few state.scene.rows desk.layers part.followed part.apart, all, stands.numbers.guests)
+
+-- the same bytes and frames by other names
+pub alike : (setup : Setup) (held held' : ℕ → List ℕ) (windows : WindowsView) (frames frames' : ℕ → PortState) (state : DeskState) → StandsWith setup held windows frames state
+    → ((guest : ℕ) → held' guest ≡ held guest) → ((guest : ℕ) → frames' guest ≡ frames guest) → StandsWith setup held' windows frames' state
+alike setup held held' windows frames frames' state stands kept unread = record {
+  numbers = stands.numbers;
+  count = stands.count;
+  parts = λ guest below.
+      let H : List ℕ → Type 0 = λ h. PartStands setup guest h (part_of guest windows) (frames' guest) state in
+      let F : PortState → Type 0 = λ p. PartStands setup guest (held guest) (part_of guest windows) p state in
+      subst H (sym (kept guest)) (subst F (sym (unread guest)) (stands.parts guest below));
+  known = stands.known;
+  items = stands.items;
+}
+
+-- what a guest had, put in its own place
+pub put-itself : {A : Type 0} (guest : ℕ) (f : ℕ → A) (g : ℕ) → put guest (f guest) f g ≡ f g
+put-itself guest f g = by_guest (g == guest) refl
+  where
+    by_guest : (b : Bool) → (g == guest) ≡ b → (if b then f guest else f g) ≡ f g
+    by_guest true is = ap f (sym (eqb-true g guest is))
+    by_guest false is = refl
+
+-- what another function has for a guest, where both agree on the others
+pub put-agrees : {A : Type 0} (guest : ℕ) (f h : ℕ → A) → ((other : ℕ) → other ≢ guest → h other ≡ f other) → (g : ℕ) → put guest (h guest) f g ≡ h g
+put-agrees guest f h agree g = by_guest (g == guest) refl
+  where
+    by_guest : (b : Bool) → (g == guest) ≡ b → (if b then h guest else f g) ≡ h g
+    by_guest true is = ap h (sym (eqb-true g guest is))
+    by_guest false is = sym (agree g (eqb-false g guest is))
+
+-- a guest's own part, where its bytes and its frames are put in its place
+pub own-part : (setup : Setup) (guest : ℕ) (held : List ℕ) (others : ℕ → List ℕ) (windows : WindowsView) (port : PortState) (frames : ℕ → PortState) (state : DeskState)
+    → StandsWith setup (put guest held others) windows (put guest port frames) state → guest < guests_of windows → PartStands setup guest held (part_of guest windows) port state
+own-part setup guest held others windows port frames state stands there =
+    let H : List ℕ → Type 0 = λ h. PartStands setup guest h (part_of guest windows) (put guest port frames guest) state in
+    let F : PortState → Type 0 = λ p. PartStands setup guest held (part_of guest windows) p state in
+    subst F (put-same guest port frames) (subst H (put-same guest held others)
+    (part-stands setup (put guest held others) windows (put guest port frames) state stands guest there))
+
+-- a guest's new part in the place of its old one, its bytes and frames put in their place
+pub join-put : (setup : Setup) (guest : ℕ) (held behind : List ℕ) (others : ℕ → List ℕ) (windows windows' : WindowsView) (port port' : PortState) (frames : ℕ → PortState) (before after : DeskState)
+    → StandsWith setup (put guest held others) windows (put guest port frames) before → PartStands setup guest behind (part_of guest windows') port' after
+    → LeavesOthers guest before after → ChangesPart guest windows windows'
+    → StandsWith setup (put guest behind others) windows' (put guest port' frames) after
+join-put setup guest held behind others windows windows' port port' frames before after stands own leaves alone =
+    let H : List ℕ → Type 0 = λ h. PartStands setup guest h (part_of guest windows') (put guest port' frames guest) after in
+    let F : PortState → Type 0 = λ p. PartStands setup guest behind (part_of guest windows') p after in
+    join setup guest (put guest held others) (put guest behind others) windows windows' (put guest port frames) (put guest port' frames) before after stands
+    (subst H (sym (put-same guest behind others)) (subst F (sym (put-same guest port' frames)) own)) leaves alone
+    (λ other apart. put-other guest behind others other apart ∙ sym (put-other guest held others other apart))
+    (λ other apart. put-other guest port' frames other apart ∙ sym (put-other guest port frames other apart))

@@ -5,29 +5,30 @@ use Rattle.desk_laws.specs.Following.{without_guest}
 use Rattle.desk_laws.specs.Frames.{PortState}
 use Rattle.desk_laws.specs.Scene.{Post, Closing}
 use Rattle.desk_laws.specs.State.{DeskState, count_item, session_of, with_session}
-use Rattle.desk_laws.specs.Steps.{ends}
 use Rattle.guest_session.specs.SessionView.{SessionView, IsEnded}
-use Rattle.desk_core.specs.DeskView.{DeskView, PartView, ChangesPart, guests_of, part_of, session_in, with_part}
-use Rattle.desk_core.specs.DeskStands.{PartStands, item_counted}
+use Rattle.desk_core.specs.WindowsView.{WindowsView, PartView, ChangesPart, guests_of, part_of, put, session_in, with_part}
+use Rattle.desk_core.specs.WindowsStand.{PartStands, item_counted}
 use Rattle.desk_core.specs.Kept.{IsKept}
-use Rattle.desk_core.specs.PieceSteps.{LeavesOthers, PushesPiece, TookSome}
-use Rattle.desk_core.proofs.EndStands.{ends-stands}
-use Rattle.desk_core.proofs.JoinLemmas.{put, put-same, put-other, part-in, part-alone, join, part-stands, focus-few}
+use Rattle.desk_core.specs.Pieces.{LeavesOthers, PushesPiece}
+use Rattle.desk_core.specs.declared.windows.Told.{Told}
+use Rattle.desk_core.specs.Telling.{TookTold}
+use Rattle.desk_core.proofs.EndStands.{ended_told, ends-stands}
+use Rattle.desk_core.proofs.JoinLemmas.{put-same, put-other, part-in, part-alone, join, part-stands, focus-few}
 use Rattle.desk_core.proofs.LeaveLemmas.{leaves-all, leaves-both, ends-leaves}
 use Rattle.desk_core.proofs.StandLemmas.{moved, counts-with, put-leaves, pushed-with, with-frames}
 
 -- the state that a desk stands for, with these frames of a guest
-abbrev pub state-at : (room guest : ℕ) (desk : DeskView) (port : PortState) → IsKept room desk → DeskState
+abbrev pub state-at : (room guest : ℕ) (desk : WindowsView) (port : PortState) → IsKept room desk → DeskState
 state-at room guest desk port kept = with_session guest (record (session_of guest kept.state) { port = port }) kept.state
 
 -- a guest's part stands for it
-pub kept-part : (room guest : ℕ) (desk : DeskView) (port : PortState) (kept : IsKept room desk) → guest < guests_of desk
+pub kept-part : (room guest : ℕ) (desk : WindowsView) (port : PortState) (kept : IsKept room desk) → guest < guests_of desk
     → PartStands kept.setup guest (kept.held guest) (part_of guest desk) port (state-at room guest desk port kept)
 kept-part room guest desk port kept there =
     with-frames kept.setup guest (kept.held guest) (part_of guest desk) (kept.frames guest) port kept.state (part-stands kept.setup kept.held desk kept.frames kept.state kept.stands guest there)
 
 -- a new part of a guest that stands for a state, where nothing of others changed
-pub part-kept : (room guest : ℕ) (old : DeskView) (new : PartView) (behind : List ℕ) (port : PortState) (after : DeskState) → (kept : IsKept room old) → guest < guests_of old
+pub part-kept : (room guest : ℕ) (old : WindowsView) (new : PartView) (behind : List ℕ) (port : PortState) (after : DeskState) → (kept : IsKept room old) → guest < guests_of old
     → PartStands kept.setup guest behind new port after → LeavesOthers guest kept.state after → IsKept room (with_part guest new old)
 part-kept room guest old new behind port after kept there stands leaves =
     let desk = with_part guest new old in
@@ -47,15 +48,15 @@ part-kept room guest old new behind port after kept there stands leaves =
       roomy = omega (arith, kept.roomy, alone.guests);
     }
 
--- after some units
-pub took-kept : {O : Type 0} (takes : O → Post → O → Type 0) (out out' : O) (room guest : ℕ) (old : DeskView) (new : PartView) (port port' : PortState)
-    → (kept : IsKept room old) → guest < guests_of old → TookSome takes out out' kept.setup guest (kept.held guest) (part_of guest old) new port' (state-at room guest old port kept)
+-- after a unit
+pub told-kept : {O : Type 0} (takes : O → Post → O → Type 0) (out out' : O) (answer : Told) (room guest : ℕ) (old : WindowsView) (new : PartView) (port port' : PortState)
+    → (kept : IsKept room old) → guest < guests_of old → TookTold takes out out' answer kept.setup guest (kept.held guest) (part_of guest old) new port' (state-at room guest old port kept)
     → IsKept room (with_part guest new old)
-took-kept takes out out' room guest old new port port' kept there took =
-    part-kept room guest old new took.behind port' took.outcome.desk kept there took.leads.0
-    (leaves-both guest kept.state (state-at room guest old port kept) took.outcome.desk (put-leaves guest (record (session_of guest kept.state) { port = port }) kept.state) took.leaves)
+told-kept takes out out' answer room guest old new port port' kept there took =
+    part-kept room guest old new took.behind port' took.told.desk kept there took.leads.0
+    (leaves-both guest kept.state (state-at room guest old port kept) took.told.desk (put-leaves guest (record (session_of guest kept.state) { port = port }) kept.state) took.leaves)
 
-pub counts-kept : (room : ℕ) (desk : DeskView) → IsKept room desk → IsKept room (item_counted desk)
+pub counts-kept : (room : ℕ) (desk : WindowsView) → IsKept room desk → IsKept room (item_counted desk)
 counts-kept room desk kept = record {
   setup = kept.setup;
   held = kept.held;
@@ -65,7 +66,7 @@ counts-kept room desk kept = record {
   roomy = kept.roomy;
 }
 
-pub pushed-kept : (room guest : ℕ) (desk : DeskView) (session : SessionView) (piece : List ℕ) (size : ℕ) → IsKept room desk → guest < guests_of desk → PushesPiece (session_in guest desk) session piece size
+pub pushed-kept : (room guest : ℕ) (desk : WindowsView) (session : SessionView) (piece : List ℕ) (size : ℕ) → IsKept room desk → guest < guests_of desk → PushesPiece (session_in guest desk) session piece size
     → IsKept room (with_part guest (record (part_of guest desk) { session = session }) desk)
 pushed-kept room guest desk session piece size kept there pushed =
     let part = part-stands kept.setup kept.held desk kept.frames kept.state kept.stands guest there in
@@ -75,14 +76,14 @@ pushed-kept room guest desk session piece size kept there pushed =
     (λ going. pushed.stands going (kept.held guest) (part.opened going).stream))
     (leaves-all guest kept.state)
 
-pub ends-kept : (room guest : ℕ) (desk : DeskView) (new : SessionView) (cause : Cause) → IsKept room desk → guest < guests_of desk → IsEnded (session_in guest desk) cause new
+pub ends-kept : (room guest : ℕ) (desk : WindowsView) (new : SessionView) (cause : Cause) → IsKept room desk → guest < guests_of desk → IsEnded (session_in guest desk) cause new
     → IsKept room (with_part guest (moved new (without_guest guest desk.layers) desk.messages desk.glances) desk)
 ends-kept room guest desk new cause kept there over =
     let part = part-stands kept.setup kept.held desk kept.frames kept.state kept.stands guest there in
-    part-kept room guest desk (moved new (without_guest guest desk.layers) desk.messages desk.glances) [] (kept.frames guest) (ends kept.setup guest Closing cause kept.state).desk kept there
+    part-kept room guest desk (moved new (without_guest guest desk.layers) desk.messages desk.glances) [] (kept.frames guest) (ended_told guest Closing cause kept.state).desk kept there
     (ends-stands kept.setup guest (kept.held guest) [] (part_of guest desk) new (kept.frames guest) (kept.frames guest) kept.state Closing cause part over refl)
-    (ends-leaves kept.setup guest Closing cause kept.state)
+    (ends-leaves guest Closing cause kept.state)
 
 -- there is room for the lists of a desk
-pub room-for : (room : ℕ) (desk : DeskView) → IsKept room desk → length desk.layers.focus ≤ room
+pub room-for : (room : ℕ) (desk : WindowsView) → IsKept room desk → length desk.layers.focus ≤ room
 room-for room desk kept = omega (arith, focus-few kept.setup kept.held desk kept.frames kept.state kept.stands, kept.roomy)

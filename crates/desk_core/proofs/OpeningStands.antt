@@ -16,11 +16,10 @@ use Rattle.desk_laws.specs.Following.{LayersFollow}
 use Rattle.desk_laws.specs.Frames.{PortState}
 use Rattle.desk_laws.specs.State.{Session, session_of, opening, fresh}
 use Rattle.desk_laws.proofs.FollowChanges.{none-follow}
-use Rattle.desk_laws.proofs.SoundLemmas.{opening-is_sound}
 use Rattle.guest_session.specs.SessionView.{SessionView, AreRows}
 use Rattle.frame_pool.specs.Ports.{AreZeros}
-use Rattle.desk_core.specs.DeskView.{DeskView, no_session, part_of, session_in}
-use Rattle.desk_core.specs.DeskStands.{HasNumbers, IsFresh, PartStands, Stands, StandsWith, rests_of}
+use Rattle.desk_core.specs.WindowsView.{WindowsView, no_session, part_of, session_in}
+use Rattle.desk_core.specs.WindowsStand.{HasNumbers, IsFresh, PartStands, AreAtRest, StandsWith, rests_of}
 use Rattle.desk_core.proofs.EndStands.{no-rows}
 
 -- each guest's session is a fresh one
@@ -28,7 +27,7 @@ first-session : (setup : Setup) (guest : ℕ) → guest < length setup.guests �
 first-session setup guest below = get_or-replicate (length setup.guests) guest (fresh setup.pages) (fresh 0) below
 
 -- a desk that was made of fresh sessions, and nothing on it
-pub record IsOpened (setup : Setup) (desk : DeskView) : Type 0 where
+pub record IsOpened (setup : Setup) (desk : WindowsView) : Type 0 where
   pub numbers : HasNumbers setup desk
   pub sessions : (guest : ℕ) → guest < length setup.guests → IsFresh setup guest (session_in guest desk)
   pub layers : desk.layers ≡ no_layers
@@ -36,7 +35,7 @@ pub record IsOpened (setup : Setup) (desk : DeskView) : Type 0 where
   pub messages : desk.messages ≡ 0
   pub glances : desk.glances ≡ 0
 
-part-opened : (setup : Setup) (guest : ℕ) (desk : DeskView) (frames : ℕ → PortState) → AreZeros (length setup.guests) setup.pages frames → IsOpened setup desk → guest < length setup.guests
+part-opened : (setup : Setup) (guest : ℕ) (desk : WindowsView) (frames : ℕ → PortState) → AreZeros (length setup.guests) setup.pages frames → IsOpened setup desk → guest < length setup.guests
     → PartStands setup guest [] (part_of guest desk) (frames guest) (opening setup)
 part-opened setup guest desk frames blank opened below =
     let made = opened.sessions guest below in
@@ -67,7 +66,7 @@ part-opened setup guest desk frames blank opened below =
       glances_in_range = omega (arith, opened.glances);
     }
 
-pub opening-with : (setup : Setup) (held : ℕ → List ℕ) (desk : DeskView) (frames : ℕ → PortState) → AreZeros (length setup.guests) setup.pages frames → IsOpened setup desk
+pub opening-with : (setup : Setup) (held : ℕ → List ℕ) (desk : WindowsView) (frames : ℕ → PortState) → AreZeros (length setup.guests) setup.pages frames → IsOpened setup desk
     → ((guest : ℕ) → guest < length setup.guests → held guest ≡ []) → StandsWith setup held desk frames (opening setup)
 opening-with setup held desk frames blank opened none = record {
   numbers = opened.numbers;
@@ -79,13 +78,12 @@ opening-with setup held desk frames blank opened none = record {
   items = sym opened.items;
 }
 
-pub opening-stands : (setup : Setup) (desk : DeskView) (frames : ℕ → PortState) → AreZeros (length setup.guests) setup.pages frames → IsOpened setup desk → Stands setup desk frames (opening setup)
+pub opening-stands : (setup : Setup) (desk : WindowsView) (frames : ℕ → PortState) → AreZeros (length setup.guests) setup.pages frames → IsOpened setup desk → AreAtRest setup desk frames (opening setup)
 opening-stands setup desk frames blank opened =
     let none : (guest : ℕ) → guest < length setup.guests → rests_of (opening setup) guest ≡ [] = λ guest below. ap (λ (s : Session). s.rest) (first-session setup guest below) in
     record {
       with_rest = opening-with setup (rests_of (opening setup)) desk frames blank opened none;
       waits = λ guest below going. ap (λ b. front b (rests_of (opening setup) guest)) (opened.sessions guest below).greeted ∙ ap (front false) (none guest below);
-      sound = opening-is_sound setup;
     }
 
 -- ---- how sessions and labels are made

@@ -28,8 +28,8 @@ use Rattle.desk_laws.proofs.IdLemmas.{is_in-first, is_in-further}
 use Rattle.desk_laws.proofs.FollowLemmas.{is_normal, is_over as is_override, normal-has, over-has, passes}
 use Rattle.guest_session.specs.Reading.{content_in}
 use Rattle.guest_session.specs.SessionView.{SessionView}
-use Rattle.desk_core.specs.DeskStands.{StandsWith}
-use Rattle.desk_core.specs.DeskView.{DeskView, no_session}
+use Rattle.desk_core.specs.WindowsStand.{StandsWith}
+use Rattle.desk_core.specs.WindowsView.{WindowsView, no_session}
 use Rattle.desk_core.specs.ShownView.{ShownView}
 use Rattle.desk_core.specs.Panes.{bordered, label_in, pane_of, rows_in, shown_row, shown_with, shown_of}
 
@@ -192,7 +192,7 @@ in-at [] k id at = absurd (none-some id at)
 in-at (x ∷ ids) zero id at = let first : x ≡ id = cc in ap (λ i. same_row id i || is_in ids id) first ∙ is_in-first id ids
 in-at (x ∷ ids) (suc k) id at = is_in-further x id ids (in-at ids k id at)
 
-module _ (setup : Setup) (held : ℕ → List ℕ) (desk : DeskView) (frames : ℕ → PortState) (state : DeskState) (stands : StandsWith setup held desk frames state) where
+module _ (setup : Setup) (held : ℕ → List ℕ) (desk : WindowsView) (frames : ℕ → PortState) (state : DeskState) (stands : StandsWith setup held desk frames state) where
   abbrev rows : List Row
   rows = state.scene.rows
 

@@ -21,7 +21,7 @@ use Rattle.desk_laws.proofs.ChangeLemmas.{found-window}
 use Rattle.desk_laws.proofs.GridLemmas.{length-span}
 use Rattle.guest_session.specs.Reading.{drawn_by, rect_of}
 use Rattle.guest_session.specs.Turns.{window_of}
-use Rattle.desk_core.specs.DeskStands.{glances_in}
+use Rattle.desk_core.specs.WindowsStand.{glances_in}
 
 -- an area is one of a window's row, and has no pixel where the row has no dump
 pub record IsReadOf (window : ℕ) (own : List Row) (row : Row) (read : Area) : Type 0 where

@@ -15,7 +15,7 @@ use Rattle.desk_laws.specs.Scene.{Scene, SceneOutcome, Post, Delivery, Grants, A
 use Rattle.desk_laws.proofs.FollowChanges.{row_with-mine}
 use Rattle.io_ports.specs.Posts.{Leads}
 use Rattle.guest_session.specs.SessionView.{SessionView, AreRows}
-use Rattle.desk_core.specs.DeskView.{no_session}
+use Rattle.desk_core.specs.WindowsView.{no_session}
 use Rattle.desk_core.specs.Panes.{rows_in}
 use Rattle.desk_core.specs.Places.{row_of}
 use Rattle.desk_core.specs.declared.deliveries.Delivery.{Delivery as Waiting}

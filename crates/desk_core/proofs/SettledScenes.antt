@@ -13,7 +13,7 @@ use Rattle.input_router.specs.Presents.{Presents, Carries}
 use Rattle.input_router.specs.Spots.{spot_of}
 use Rattle.input_router.proofs.DeliveryLemmas.{settled-few}
 use Rattle.guest_session.specs.SessionView.{SessionView}
-use Rattle.desk_core.specs.DeskView.{no_session}
+use Rattle.desk_core.specs.WindowsView.{no_session}
 use Rattle.desk_core.specs.Panes.{rows_in}
 use Rattle.desk_core.specs.Places.{spots_of}
 use Rattle.desk_core.specs.Queued.{Queues}

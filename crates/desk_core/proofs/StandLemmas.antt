@@ -10,16 +10,22 @@ use Rattle.desk_laws.specs.Layers.{Layers, followed, are_apart}
 use Rattle.desk_laws.specs.Frames.{PortState, counted}
 use Rattle.desk_laws.specs.Effects.{Effect, Change, changed}
 use Rattle.desk_laws.specs.Following.{LayersFollow, ChangesOne, FollowsRow, after_row}
-use Rattle.desk_laws.specs.State.{DeskState, Session, session_of, with_session, count_item, fresh}
-use Rattle.desk_laws.specs.Steps.{went, session_after, messages_of}
+use Rattle.desk_laws.specs.State.{DeskState, Session, StepOutcome, on_desk, session_of, with_session, count_item, fresh}
+use Rattle.desk_laws.specs.Steps.{counts_after, messages_of, session_after, unit_told}
 use Rattle.desk_laws.proofs.UnitLemmas.{session-put}
 use Rattle.desk_laws.proofs.FollowChanges.{lists-follow_one, row_with-mine}
 use Rattle.in_stream.specs.Received.{StandsFor}
 use Rattle.guest_session.specs.SessionView.{SessionView, AreRows}
-use Rattle.desk_core.specs.DeskView.{DeskView, PartView, part_of, session_in}
-use Rattle.desk_core.specs.DeskStands.{PartStands, StandsWith, IsAtRest, item_counted, rests_of}
-use Rattle.desk_core.specs.PieceSteps.{LeavesOthers}
+use Rattle.desk_core.specs.WindowsView.{WindowsView, PartView, part_of, session_in}
+use Rattle.desk_core.specs.WindowsStand.{PartStands, StandsWith, AreAtRest, item_counted, rests_of}
+use Rattle.desk_core.specs.Pieces.{LeavesOthers}
 use Rattle.desk_core.specs.Stacked.{id_in}
+
+-- what a unit told that ended nothing, before focus and hover are told
+abbrev pub went_told : ℕ → StreamUnit → Effect → DeskState → StepOutcome
+went_told guest unit e state =
+    on_desk (unit_told guest unit e state.scene) (map (λ w. record { guest = guest; word = w }) e.readings)
+    (with_session guest (session_after unit e (session_of guest state)) (record state { counts = counts_after unit e state.counts }))
 
 -- a guest's part: its session, the lists, and the counts of messages and of words that were read
 abbrev pub moved : SessionView → Layers → (messages glances : ℕ) → PartView
@@ -59,7 +65,7 @@ pub record AreCounted (unit : StreamUnit) (e : Effect) (part : PartView) (messag
 pub went-stands : (setup : Setup) (guest : ℕ) (held behind : List ℕ) (part : PartView) (new : SessionView) (layers : Layers) (messages glances : ℕ) (port port' : PortState) (state : DeskState) (unit : StreamUnit) (e : Effect)
     → PartStands setup guest held part port state → part.session.ended ≡ None → HadUnit guest unit e part.session new port' behind → AreRows guest new.rows → HadLists e.rows part.layers layers
     → AreCounted unit e part messages glances
-    → PartStands setup guest behind (moved new layers messages glances) port' (went setup guest unit e state).desk
+    → PartStands setup guest behind (moved new layers messages glances) port' (went_told guest unit e state).desk
 went-stands setup guest held behind part new layers messages glances port port' state unit e stands going had own lists counts =
     let session : Session = session_after unit e (session_of guest state) in
     let put : session_of guest (with_session guest session state) ≡ session = session-put guest session state stands.there in
@@ -89,7 +95,7 @@ went-stands setup guest held behind part new layers messages glances port port' 
 
 -- a unit leaves the rest that the state notes
 pub went-rest : (setup : Setup) (guest : ℕ) (held : List ℕ) (part : PartView) (port : PortState) (state : DeskState) (unit : StreamUnit) (e : Effect)
-    → PartStands setup guest held part port state → (session_of guest (went setup guest unit e state).desk).rest ≡ (session_of guest state).rest
+    → PartStands setup guest held part port state → (session_of guest (went_told guest unit e state).desk).rest ≡ (session_of guest state).rest
 went-rest setup guest held part port state unit e stands =
     ap (λ (s : Session). s.rest) (session-put guest (session_after unit e (session_of guest state)) state stands.there)
 
@@ -222,7 +228,7 @@ held-over setup guest held new part port state cause stands over = record {
 
 -- ---- between items
 
-pub counts-with : (setup : Setup) (held : ℕ → List ℕ) (desk : DeskView) (frames : ℕ → PortState) (state : DeskState) → StandsWith setup held desk frames state → StandsWith setup held (item_counted desk) frames (count_item state)
+pub counts-with : (setup : Setup) (held : ℕ → List ℕ) (desk : WindowsView) (frames : ℕ → PortState) (state : DeskState) → StandsWith setup held desk frames state → StandsWith setup held (item_counted desk) frames (count_item state)
 counts-with setup held desk frames state stands = record {
   numbers = record {
     width = stands.numbers.width;
@@ -260,14 +266,14 @@ counts-with setup held desk frames state stands = record {
   items = ap (λ n. counted (n + 1)) stands.items;
 }
 
-pub counts-rest : (setup : Setup) (desk : DeskView) (frames : ℕ → PortState) (state : DeskState) → IsAtRest setup desk frames state → IsAtRest setup (item_counted desk) frames (count_item state)
+pub counts-rest : (setup : Setup) (desk : WindowsView) (frames : ℕ → PortState) (state : DeskState) → AreAtRest setup desk frames state → AreAtRest setup (item_counted desk) frames (count_item state)
 counts-rest setup desk frames state rests = record {
   with_rest = counts-with setup (rests_of state) desk frames state rests.with_rest;
   waits = rests.waits;
 }
 
 -- another picture of the same sides
-pub picture-with : (setup : Setup) (held : ℕ → List ℕ) (old new : DeskView) (frames : ℕ → PortState) (state : DeskState) → new ≡ record old { picture = new.picture }
+pub picture-with : (setup : Setup) (held : ℕ → List ℕ) (old new : WindowsView) (frames : ℕ → PortState) (state : DeskState) → new ≡ record old { picture = new.picture }
     → (new.picture.width ≡ old.picture.width) × (new.picture.height ≡ old.picture.height) × (new.picture.background ≡ old.picture.background)
     → StandsWith setup held old frames state → StandsWith setup held new frames state
 picture-with setup held old new frames state same sides stands = record {
@@ -275,23 +281,23 @@ picture-with setup held old new frames state same sides stands = record {
     width = sides.0 ∙ stands.numbers.width;
     height = sides.1 ∙ stands.numbers.height;
     background = sides.2 ∙ stands.numbers.background;
-    border = ap (λ (d : DeskView). d.border) same ∙ stands.numbers.border;
-    labels = λ guest below. ap (λ (d : DeskView). slice_get d.labels guest) same ∙ stands.numbers.labels guest below;
+    border = ap (λ (d : WindowsView). d.border) same ∙ stands.numbers.border;
+    labels = λ guest below. ap (λ (d : WindowsView). slice_get d.labels guest) same ∙ stands.numbers.labels guest below;
     wide = stands.numbers.wide;
     narrow = stands.numbers.narrow;
-    guests = ap (λ (d : DeskView). length d.sessions) same ∙ stands.numbers.guests;
+    guests = ap (λ (d : WindowsView). length d.sessions) same ∙ stands.numbers.guests;
     some = stands.numbers.some;
     few = stands.numbers.few;
   };
   count = stands.count;
   parts = λ guest below. let P : PartView → Type 0 = λ p. PartStands setup guest (held guest) p (frames guest) state in subst P (sym (ap (part_of guest) same)) (stands.parts guest below);
   known = stands.known;
-  items = stands.items ∙ sym (ap (λ (d : DeskView). d.items) same);
+  items = stands.items ∙ sym (ap (λ (d : WindowsView). d.items) same);
 }
 
-pub picture-rest : (setup : Setup) (old new : DeskView) (frames : ℕ → PortState) (state : DeskState) → new ≡ record old { picture = new.picture }
+pub picture-rest : (setup : Setup) (old new : WindowsView) (frames : ℕ → PortState) (state : DeskState) → new ≡ record old { picture = new.picture }
     → (new.picture.width ≡ old.picture.width) × (new.picture.height ≡ old.picture.height) × (new.picture.background ≡ old.picture.background)
-    → IsAtRest setup old frames state → IsAtRest setup new frames state
+    → AreAtRest setup old frames state → AreAtRest setup new frames state
 picture-rest setup old new frames state same sides rests = record {
   with_rest = picture-with setup (rests_of state) old new frames state same sides rests.with_rest;
   waits = λ guest below.

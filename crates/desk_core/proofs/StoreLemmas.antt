@@ -7,15 +7,15 @@ use Rattle.desk_laws.specs.State.{DeskState, Session, StepOutcome, session_of, w
 use Rattle.desk_laws.specs.Steps.{take_store, store_of_open}
 use Rattle.desk_laws.proofs.UnitLemmas.{session-put}
 use Rattle.guest_session.specs.SessionView.{SessionView}
-use Rattle.desk_core.specs.DeskView.{DeskView, guests_of, part_of, session_in}
-use Rattle.desk_core.specs.DeskStands.{PartStands, IsAtRest, StoresTo, rests_of}
-use Rattle.desk_core.proofs.DeskTurns.{session-at}
+use Rattle.desk_core.specs.WindowsView.{WindowsView, guests_of, part_of, session_in}
+use Rattle.desk_core.specs.WindowsStand.{PartStands, AreAtRest, StoresTo, rests_of}
+use Rattle.desk_core.proofs.WindowTurns.{session-at}
 use Rattle.desk_core.proofs.JoinLemmas.{alone-none, guest-known, join-rest, part-stands}
 use Rattle.desk_core.proofs.StandLemmas.{put-leaves, put-with}
 
 -- of a guest whose session goes on
-stores-open : (setup : Setup) (guest delay page offset : ℕ) (bytes : List ℕ) (desk : DeskView) (frames frames' : ℕ → PortState) (state : DeskState)
-    → guest < guests_of desk → (session_in guest desk).ended ≡ None → IsAtRest setup desk frames state → frames' guest ≡ store (frames guest) delay page offset bytes
+stores-open : (setup : Setup) (guest delay page offset : ℕ) (bytes : List ℕ) (desk : WindowsView) (frames frames' : ℕ → PortState) (state : DeskState)
+    → guest < guests_of desk → (session_in guest desk).ended ≡ None → AreAtRest setup desk frames state → frames' guest ≡ store (frames guest) delay page offset bytes
     → ((other : ℕ) → other ≢ guest → frames' other ≡ frames other) → StoresTo setup desk frames' (take_store guest delay page offset bytes state)
 stores-open setup guest delay page offset bytes desk frames frames' state there going rests stored unread =
     let part = part-stands setup (rests_of state) desk frames state rests.with_rest guest there in
@@ -36,8 +36,8 @@ stores-open setup guest delay page offset bytes desk frames frames' state there 
     )
 
 -- the same, where the session is the one at the guest's place
-pub stores-seen : (setup : Setup) (guest delay page offset : ℕ) (bytes : List ℕ) (old now : DeskView) (frames frames' : ℕ → PortState) (state : DeskState) (t : SessionView)
-    → old ≡ now → guest < guests_of now → t ≡ get_or old.sessions guest t → t.ended ≡ None → IsAtRest setup now frames state → frames' guest ≡ store (frames guest) delay page offset bytes
+pub stores-seen : (setup : Setup) (guest delay page offset : ℕ) (bytes : List ℕ) (old now : WindowsView) (frames frames' : ℕ → PortState) (state : DeskState) (t : SessionView)
+    → old ≡ now → guest < guests_of now → t ≡ get_or old.sessions guest t → t.ended ≡ None → AreAtRest setup now frames state → frames' guest ≡ store (frames guest) delay page offset bytes
     → ((other : ℕ) → other ≢ guest → frames' other ≡ frames other) → StoresTo setup now frames' (take_store guest delay page offset bytes state)
 stores-seen setup guest delay page offset bytes old now frames frames' state t is there_now seen open_still rests stored unread =
     let there : guest < guests_of old = omega (arith, there_now, ap guests_of is) in

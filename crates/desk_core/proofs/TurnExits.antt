@@ -22,12 +22,14 @@ use Rattle.guest_session.specs.declared.turn.Turn.TheVariants as turns
 use Rattle.guest_session.specs.SessionView.{SessionView, AreRows, HasRows, with_stream}
 use Rattle.guest_session.specs.Clips.{is_clip, HasClip}
 use Rattle.guest_session.specs.Turns.{Turns, TakesUnit, Decides, window_of}
-use Rattle.desk_core.specs.DeskView.{PartView}
-use Rattle.desk_core.specs.DeskStands.{PartStands, glances_in}
-use Rattle.desk_core.specs.PieceSteps.{TookSome, Settled}
+use Rattle.desk_core.specs.declared.windows.Told.TheVariants as answers
+use Rattle.desk_core.specs.Telling.{TookTold, answer_of}
+use Rattle.desk_core.specs.WindowsView.{PartView}
+use Rattle.desk_core.specs.WindowsStand.{PartStands, glances_in}
+use Rattle.desk_core.specs.Pieces.{Drained}
 use Rattle.desk_core.specs.Stacked.{id_in, layer_in, after_layer}
 use Rattle.desk_core.proofs.StandLemmas.{moved}
-use Rattle.desk_core.proofs.UnitTurns.{stays-took}
+use Rattle.desk_core.proofs.UnitTurns.{stays-told}
 use Rattle.desk_core.proofs.ChangedTurns.{turn-changed, not-changed-clip}
 use Rattle.desk_core.proofs.ClipTurns.{IsClipTurn, ShownClip, shown-clip, clip-took}
 use Rattle.desk_core.proofs.EndedTurns.{turn-ended, not-ended}
@@ -90,7 +92,7 @@ module _ {O : Type 0} (takes : O → Post → O → Type 0) (out out' : O) (setu
       → Turned takes out out' port port' part.session new (turns.Changed window drawn) → Over out out' port port' part.session new (turns.Changed window drawn)
       → HasRows new → layer ≡ layer_in (row_with window new.rows) → layers ≡ after_layer (id_in guest window) layer part.layers
       → messages ≡ counted (part.messages + (if part.session.stream.greeted then 1 else 0)) → glances ≡ counted (part.glances + glances_in drawn)
-      → TookSome takes out out' setup guest held part (moved new layers messages glances) port' state
+      → TookTold takes out out' (answer_of drawn) setup guest held part (moved new layers messages glances) port' state
   exit-changed window drawn layer layers messages glances turned over own in_layer made count seen =
       let going = busy-going out out' port port' part.session new (turns.Changed window drawn) tt over in
       let t = turned going held (stands.opened going).stream in
@@ -132,14 +134,14 @@ module _ {O : Type 0} (takes : O → Post → O → Type 0) (out out' : O) (setu
   -- the clipboard message was let go
   pub exit-clip : (turn : Turn) (last : SessionView) (messages : ℕ) → IsBusy turn → IsClipTurn turn → Turned takes out out' port port' part.session new turn → Over out out' port port' part.session new turn
       → last ≡ with_stream last.stream new → DropsUnit new.stream last.stream → last.stream.greeted ≡ true → messages ≡ counted (part.messages + 1)
-      → TookSome takes out out' setup guest held part (moved last part.layers messages part.glances) port' state
+      → TookTold takes out out' answers.Changed setup guest held part (moved last part.layers messages part.glances) port' state
   exit-clip turn last messages busy clip turned over same drops greeted count =
       let going = busy-going out out' port port' part.session new turn busy over in
       let shown = exit-shown turn busy clip turned over in
       let P : SessionView → Type 0 = λ s. StandsFor s.stream held in
       let holds : StandsFor new.stream held = subst P (sym shown.same) (stands.opened going).stream in
       let at : front new.stream.greeted held ≡ Takes shown.unit shown.behind = ap (λ (s : SessionView). front s.stream.greeted held) shown.same ∙ shown.is in
-      let Q : O → Type 0 = λ o. TookSome takes out o setup guest held part (moved last part.layers messages part.glances) port' state in
+      let Q : O → Type 0 = λ o. TookTold takes out o answers.Changed setup guest held part (moved last part.layers messages part.glances) port' state in
       subst Q (sym shown.silent)
       (clip-took takes out setup guest held shown.behind part last messages port port' state shown.unit stands going shown.is shown.clip
       (same ∙ ap (with_stream last.stream) shown.same) greeted (drops held shown.unit shown.behind holds at) shown.unread count)
@@ -158,7 +160,7 @@ module _ {O : Type 0} (takes : O → Post → O → Type 0) (out out' : O) (setu
   -- ---- the session ended
 
   pub exit-ended : (last : O) (cause : Cause) → Turned takes out out' port port' part.session new (turns.Ended cause) → Over out out' port port' part.session new (turns.Ended cause) → takes out' (Ended guest cause) last
-      → TookSome takes out last setup guest held part (moved new (without_guest guest part.layers) part.messages part.glances) port' state
+      → TookTold takes out last answers.Ended setup guest held part (moved new (without_guest guest part.layers) part.messages part.glances) port' state
   exit-ended last cause turned over told =
       let going = busy-going out out' port port' part.session new (turns.Ended cause) tt over in
       turn-ended takes out out' last setup guest held part new cause port port' state (front part.session.stream.greeted held) stands going refl (turned going held (stands.opened going).stream) told
@@ -172,19 +174,19 @@ module _ {O : Type 0} (takes : O → Post → O → Type 0) (out out' : O) (setu
       by_end (Some cause) e = let o = over cause e in (o.1, o.2, o.3)
       by_end None e = let w = turn-waits takes out out' port port' part.session new (front part.session.stream.greeted held) (turned e held (stands.opened e).stream) in (w.1, w.2, w.3)
 
-  pub exit-settled : Turned takes out out' port port' part.session new turns.Wait → Over out out' port port' part.session new turns.Wait → Settled part.session
-  exit-settled turned over = λ going. record {
+  pub exit-drained : Turned takes out out' port port' part.session new turns.Wait → Over out out' port port' part.session new turns.Wait → Drained part.session
+  exit-drained turned over = λ going. record {
     held = held;
     stands = (stands.opened going).stream;
     waits = λ rest holds. (turn-waits takes out out' port port' part.session new (front part.session.stream.greeted rest) (turned going rest holds)).0;
   }
 
-  pub exit-stays : Turned takes out out' port port' part.session new turns.Wait → Over out out' port port' part.session new turns.Wait → TookSome takes out out' setup guest held part (record part { session = new }) port' state
+  pub exit-stays : Turned takes out out' port port' part.session new turns.Wait → Over out out' port port' part.session new turns.Wait → TookTold takes out out' answers.Waits setup guest held part (record part { session = new }) port' state
   exit-stays turned over =
       let w = exit-waits turned over in
-      let P : SessionView → Type 0 = λ s. TookSome takes out out' setup guest held part (record part { session = s }) port' state in
-      let Q : O → Type 0 = λ o. TookSome takes out o setup guest held part part port' state in
-      subst P (sym w.0) (subst Q (sym w.1) (stays-took takes out setup guest held part port port' state stands w.2))
+      let P : SessionView → Type 0 = λ s. TookTold takes out out' answers.Waits setup guest held part (record part { session = s }) port' state in
+      let Q : O → Type 0 = λ o. TookTold takes out o answers.Waits setup guest held part part port' state in
+      subst P (sym w.0) (subst Q (sym w.1) (stays-told takes out setup guest held part port port' state stands w.2))
 
 -- either clipboard turn is one, and did something
 pub clip-busy : (turn : Turn) → (turn ≡ turns.ClipWhole) ⊎ (turn ≡ turns.ClipOver) → IsBusy turn × IsClipTurn turn

@@ -1,5 +1,5 @@
 -- A unit that ended nothing, from the definitions to the part.
-use Rattle.std.proofs.Common.{◌≡◌, ℕ, ◌+◌, ◌/◌, ◌%◌, Bool, true, false, ◌==◌, length, drop, take, ◌≤◌, List, [], ◌++◌, Option, Some, None, refl, sym, ◌∙◌, ap, subst}
+use Rattle.std.proofs.Common.{◌≡◌, ℕ, ◌+◌, ◌/◌, ◌%◌, Bool, true, false, ◌==◌, length, drop, take, ◌≤◌, List, ◌++◌, Option, Some, None, refl, sym, ◌∙◌, ap, subst}
 use Rattle.std.specs.Prelude.{if◌then◌else◌, nat_lt}
 use Rattle.gui_wire.specs.Words.{word_at}
 use Rattle.gui_wire.specs.Headers.{header_at}
@@ -18,7 +18,8 @@ use Rattle.desk_laws.specs.Effects.{Effect, Change, Goes, Greets, Ends, Verdict,
 use Rattle.desk_laws.specs.Following.{ChangesOne, after_row}
 use Rattle.desk_laws.specs.Scene.{Post, replies}
 use Rattle.desk_laws.specs.State.{DeskState, StepOutcome, session_of, stays, step_after}
-use Rattle.desk_laws.specs.Steps.{take_unit, take_units, unit_done, went, messages_of}
+use Rattle.desk_laws.specs.Settle.{IsSettled}
+use Rattle.desk_laws.specs.Steps.{take_unit, take_units, unit_done, unit_told, messages_of}
 use Rattle.desk_laws.proofs.ChangeLemmas.{messages-change_one}
 use Rattle.desk_laws.proofs.Cutting.{front_by-append, front_by-whole_header, takes-whole_header}
 use Rattle.desk_laws.proofs.CuttingLemmas.{cut-takes, front-greets}
@@ -28,25 +29,32 @@ use Rattle.guest_session.specs.declared.turn.Turn.{Turn}
 use Rattle.guest_session.specs.declared.turn.Turn.TheVariants as turns
 use Rattle.guest_session.specs.SessionView.{SessionView, AreRows}
 use Rattle.guest_session.specs.Turns.{HadEffect, window_of}
-use Rattle.desk_core.specs.DeskView.{PartView}
+use Rattle.desk_core.specs.WindowsView.{PartView}
 use Rattle.desk_core.specs.DeskPosts.{guest_posts}
-use Rattle.desk_core.specs.DeskStands.{PartStands, LeadsTo, glances_in}
-use Rattle.desk_core.specs.PieceSteps.{TookSome, taken_from}
+use Rattle.desk_core.specs.WindowsStand.{PartStands, LeadsTo, glances_in}
+use Rattle.desk_core.specs.declared.windows.Told.{Told}
+use Rattle.desk_core.specs.declared.windows.Told.TheVariants as answers
+use Rattle.desk_core.specs.Pieces.{taken_from}
+use Rattle.desk_core.specs.Settling.{settled_after}
+use Rattle.desk_core.specs.Telling.{TookTold, moves}
 use Rattle.desk_core.specs.Stacked.{id_in}
-use Rattle.desk_core.proofs.LeaveLemmas.{leaves-all, unit-leaves}
+use Rattle.desk_core.proofs.LeaveLemmas.{leaves-all, told-leaves, unit-leaves}
 use Rattle.desk_core.proofs.OwnRows.{IsOwnEffect, own-effect}
-use Rattle.desk_core.proofs.PostLemmas.{guest-answers}
-use Rattle.desk_core.proofs.StandLemmas.{moved, HadUnit, HadLists, AreCounted, unread-with, went-stands, went-rest, lists-after}
+use Rattle.desk_core.proofs.PostLemmas.{guest-replies}
+use Rattle.desk_core.proofs.SettlingLemmas.{silent-after, went-settles}
+use Rattle.desk_core.proofs.StandLemmas.{went_told, moved, HadUnit, HadLists, AreCounted, unread-with, went-stands, went-rest, lists-after}
 
 -- ---- nothing was taken
 
-pub stays-took : {O : Type 0} (takes : O → Post → O → Type 0) (out : O) (setup : Setup) (guest : ℕ) (held : List ℕ) (part : PartView) (port port' : PortState) (state : DeskState)
-    → PartStands setup guest held part port state → port' ≡ port → TookSome takes out out setup guest held part part port' state
-stays-took takes out setup guest held part port port' state stands unread = record {
+pub stays-told : {O : Type 0} (takes : O → Post → O → Type 0) (out : O) (setup : Setup) (guest : ℕ) (held : List ℕ) (part : PartView) (port port' : PortState) (state : DeskState)
+    → PartStands setup guest held part port state → port' ≡ port → TookTold takes out out answers.Waits setup guest held part part port' state
+stays-told takes out setup guest held part port port' state stands unread = record {
   behind = held;
-  outcome = stays state;
+  told = stays state;
   leads = (unread-with setup guest held part port port' state stands unread, refl);
-  all = λ left. refl;
+  all = λ is left. ap (λ o. step_after o (taken_from setup guest part.session.stream.greeted (held ++ left) o.desk)) (sym (silent-after setup (stays state) is));
+  still = λ _ is. is;
+  seat = refl;
   going = λ going. going;
   rest = λ going left. refl;
   kept = λ going. refl;
@@ -66,25 +74,30 @@ verdict-same setup guest held part port state unit stands going =
     ∙ ap (λ sizes. verdict sizes s.guest s.minor s.rows unit) (sym stands.sizes)
 
 -- a unit taken off the front of the bytes that are held
-pub unit-took : {O : Type 0} (takes : O → Post → O → Type 0) (out out' : O) (setup : Setup) (guest : ℕ) (held behind : List ℕ) (old new : PartView) (port' : PortState) (state : DeskState) (unit : StreamUnit)
+pub unit-told : {O : Type 0} (takes : O → Post → O → Type 0) (out out' : O) (answer : Told) (setup : Setup) (guest : ℕ) (held behind : List ℕ) (old new : PartView) (port' : PortState) (state : DeskState) (unit : StreamUnit) (told : StepOutcome)
     → old.session.ended ≡ None → front old.session.stream.greeted held ≡ Takes unit behind → new.session.stream.greeted ≡ true
-    → LeadsTo takes out out' setup guest behind new port' (take_unit setup guest unit state) → (session_of guest (take_unit setup guest unit state).desk).rest ≡ (session_of guest state).rest
-    → TookSome takes out out' setup guest held old new port' state
-unit-took takes out out' setup guest held behind old new port' state unit going is greeted leads kept =
-    let o = take_unit setup guest unit state in
+    → take_unit setup guest unit state ≡ settled_after setup told
+    → LeadsTo takes out out' setup guest behind new port' told → (session_of guest told.desk).rest ≡ (session_of guest state).rest
+    → (moves answer ≡ false → IsSettled (sizes_of setup) state.scene → IsSettled (sizes_of setup) told.desk.scene) → told.desk.scene.seat ≡ state.scene.seat
+    → TookTold takes out out' answer setup guest held old new port' state
+unit-told takes out out' answer setup guest held behind old new port' state unit told going is greeted taken leads kept still seat =
+    let o = settled_after setup told in
     let cuts : (left : List ℕ) → cut old.session.stream.greeted (held ++ left) ≡ stream.unit_and unit (cut true (behind ++ left)) =
     λ left. cut-takes old.session.stream.greeted (held ++ left) unit (behind ++ left) (front_by-append head_fault old.session.stream.greeted held left unit behind is) in
     record {
       behind = behind;
-      outcome = o;
+      told = told;
       leads = leads;
-      all = λ left.
+      all = λ _ left.
           ap (λ (c : Cut). take_units setup guest c.units state) (cuts left)
+          ∙ ap (λ x. step_after x (taken_from setup guest true (behind ++ left) x.desk)) taken
           ∙ ap (λ b. step_after o (taken_from setup guest b (behind ++ left) o.desk)) (sym greeted);
+      still = still;
+      seat = seat;
       going = λ _. going;
       rest = λ _ left. ap (λ (c : Cut). c.rest) (cuts left) ∙ ap (λ b. (cut b (behind ++ left)).rest) (sym greeted);
       kept = λ _. kept;
-      leaves = unit-leaves setup guest unit state;
+      leaves = told-leaves setup guest state told (take_unit setup guest unit state) taken (unit-leaves setup guest unit state);
     }
 
 -- the session's effect is that of the definitions on its own rows
@@ -102,25 +115,25 @@ effect-own setup guest held part port state v stands going =
     ∙ ap (λ g. carried_out g s.minor s.rows port v) (sym stands.owner)) own
 
 -- a unit that went, with this verdict
-pub went-took : {O : Type 0} (takes : O → Post → O → Type 0) (out out' : O) (setup : Setup) (guest : ℕ) (held behind : List ℕ) (part : PartView) (new : SessionView) (layers : Layers) (messages glances : ℕ) (port port' : PortState) (state : DeskState) (unit : StreamUnit) (v : Verdict) (answers : List (List ℕ))
+pub went-took : {O : Type 0} (takes : O → Post → O → Type 0) (out out' : O) (answer : Told) (setup : Setup) (guest : ℕ) (held behind : List ℕ) (part : PartView) (new : SessionView) (layers : Layers) (messages glances : ℕ) (port port' : PortState) (state : DeskState) (unit : StreamUnit) (v : Verdict) (answers : List (List ℕ))
     → PartStands setup guest held part port state → part.session.ended ≡ None → front part.session.stream.greeted held ≡ Takes unit behind
     → verdict part.session.sizes part.session.guest part.session.minor part.session.rows unit ≡ v
     → (effect_of guest state v).cause ≡ None → (effect_of guest state v).answers ≡ answers
     → HadUnit guest unit (effect_of guest state v) part.session new port' behind → AreRows guest new.rows → HadLists (effect_of guest state v).rows part.layers layers
     → AreCounted unit (effect_of guest state v) part messages glances → new.stream.greeted ≡ true → Leads takes out (replies guest answers) out'
-    → TookSome takes out out' setup guest held part (moved new layers messages glances) port' state
-went-took takes out out' setup guest held behind part new layers messages glances port port' state unit v answers stands going is v_is none answered had own lists counts greeted told =
+    → (moves answer ≡ false → IsSettled (sizes_of setup) state.scene → IsSettled (sizes_of setup) (unit_told guest unit (effect_of guest state v) state.scene).scene)
+    → TookTold takes out out' answer setup guest held part (moved new layers messages glances) port' state
+went-took takes out out' answer setup guest held behind part new layers messages glances port port' state unit v answers stands going is v_is none answered had own lists counts greeted told still =
     let e = effect_of guest state v in
     let last = moved new layers messages glances in
-    let taken : take_unit setup guest unit state ≡ went setup guest unit e state =
+    let taken : take_unit setup guest unit state ≡ settled_after setup (went_told guest unit e state) =
     taken-by setup guest unit state v (stands.ended ∙ going) (verdict-same setup guest held part port state unit stands going ∙ v_is)
-    ∙ ap (λ c. unit_done setup guest unit e c state) none in
-    let P : StepOutcome → Type 0 = λ o. LeadsTo takes out out' setup guest behind last port' o in
-    let Q : List (List ℕ) → Type 0 = λ xs. Leads takes out (guest_posts (replies guest xs ++ [])) out' in
+    ∙ ap (λ c. unit_done setup guest unit e c state) none ∙ went-settles setup guest unit e state in
+    let Q : List (List ℕ) → Type 0 = λ xs. Leads takes out (guest_posts (replies guest xs)) out' in
     let R : List Post → Type 0 = λ ps. Leads takes out ps out' in
-    unit-took takes out out' setup guest held behind part last port' state unit going is greeted
-    (subst P (sym taken) (went-stands setup guest held behind part new layers messages glances port port' state unit e stands going had own lists counts, subst Q (sym answered) (subst R (sym (guest-answers guest answers)) told)))
-    (ap (λ (o : StepOutcome). (session_of guest o.desk).rest) taken ∙ went-rest setup guest held part port state unit e stands)
+    unit-told takes out out' answer setup guest held behind part last port' state unit (went_told guest unit e state) going is greeted taken
+    (went-stands setup guest held behind part new layers messages glances port port' state unit e stands going had own lists counts, subst Q (sym answered) (subst R (sym (guest-replies guest answers)) told))
+    (went-rest setup guest held part port state unit e stands) still refl
 
 -- a unit with this verdict changes the row of its own window alone
 pub changes-one : (sizes : Sizes) (guest minor : ℕ) (own : List Row) (unit : StreamUnit) (change : Change) (answers : List (List ℕ))
@@ -169,7 +182,7 @@ drawn_in turns.ClipOver = None
 drawn_in (turns.Ended cause) = None
 
 -- a unit whose effect the session had, where this was read
-pub effect-took : {O : Type 0} (takes : O → Post → O → Type 0) (out out' : O) (setup : Setup) (guest : ℕ) (held behind : List ℕ) (part : PartView) (new : SessionView) (window : ℕ) (drawn read : Option Rect) (layers : Layers) (messages glances : ℕ) (port port' : PortState) (state : DeskState)
+pub effect-took : {O : Type 0} (takes : O → Post → O → Type 0) (out out' : O) (answer : Told) (setup : Setup) (guest : ℕ) (held behind : List ℕ) (part : PartView) (new : SessionView) (window : ℕ) (drawn read : Option Rect) (layers : Layers) (messages glances : ℕ) (port port' : PortState) (state : DeskState)
     (unit : StreamUnit) (v : Verdict) (e : Effect) (change : Change)
     → PartStands setup guest held part port state → part.session.ended ≡ None → front part.session.stream.greeted held ≡ Takes unit behind
     → HadEffect takes out out' port' part.session new (turns.Changed window drawn) (window_of unit) read e behind
@@ -179,8 +192,9 @@ pub effect-took : {O : Type 0} (takes : O → Post → O → Type 0) (out out' :
     → ChangesOne (window_of unit) part.session.rows change
     → AreRows guest new.rows → layers ≡ after_row (id_in guest window) (row_with window new.rows) part.layers
     → messages ≡ counted (part.messages + (if part.session.stream.greeted then 1 else 0)) → glances ≡ counted (part.glances + glances_in drawn)
-    → TookSome takes out out' setup guest held part (moved new layers messages glances) port' state
-effect-took takes out out' setup guest held behind part new window drawn read layers messages glances port port' state unit v e change stands going is had v_is e_is none rows_is many one own made count seen =
+    → (moves answer ≡ false → IsSettled (sizes_of setup) state.scene → IsSettled (sizes_of setup) (unit_told guest unit (effect_of guest state v) state.scene).scene)
+    → TookTold takes out out' answer setup guest held part (moved new layers messages glances) port' state
+effect-took takes out out' answer setup guest held behind part new window drawn read layers messages glances port port' state unit v e change stands going is had v_is e_is none rows_is many one own made count seen still =
     let s = part.session in
     let E : Effect → Type 0 = λ x. IsOwnEffect guest (effect_of guest state v) x in
     let same : IsOwnEffect guest (effect_of guest state v) e = subst E e_is (effect-own setup guest held part port state v stands going) in
@@ -192,7 +206,7 @@ effect-took takes out out' setup guest held behind part new window drawn read la
     let T : ℕ → Type 0 = λ g. Leads takes out (replies g e.answers) out' in
     let looked : glances_in drawn ≡ length (effect_of guest state v).readings =
     ap glances_in (ap drawn_in had.answer) ∙ sym many ∙ ap length (sym same.readings) in
-    went-took takes out out' setup guest held behind part new layers messages glances port port' state unit v e.answers stands going is v_is
+    went-took takes out out' answer setup guest held behind part new layers messages glances port port' state unit v e.answers stands going is v_is
     (same.cause ∙ none) same.answers
     (record {
       rows = same.rows ∙ sym new_rows;
@@ -210,4 +224,4 @@ effect-took takes out out' setup guest held behind part new window drawn read la
       told = count ∙ ap (λ n. counted (part.messages + n)) (counted-unit s.stream.greeted held behind unit is);
       read = seen ∙ ap (λ n. counted (part.glances + n)) looked;
     })
-    had.greeted (subst T stands.owner had.told)
+    had.greeted (subst T stands.owner had.told) still

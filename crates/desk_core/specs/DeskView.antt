@@ -1,69 +1,28 @@
 -- What a desk is seen as.
-use Rattle.std.specs.Prelude.{◌≡◌, ℕ, false, List, [], length, slice_index_or, slice_set}
-use Rattle.gui_num.specs.declared.Colour.{Colour}
-use Rattle.desk_laws.specs.Layers.{Layers}
-use Rattle.guest_session.specs.SessionView.{SessionView, opened}
+use Rattle.std.specs.Prelude.{ℕ}
 use Rattle.compositor.specs.PictureView.{PictureView}
+use Rattle.guest_session.specs.SessionView.{SessionView}
+use Rattle.desk_laws.specs.Scene.{Seat}
+use Rattle.desk_core.specs.WindowsView as windows
+use Rattle.desk_core.specs.WindowsView.{WindowsView}
 
--- a desk: how wide borders are, the colour of each guest's label, each guest's session, the stack of the mapped windows and the focus list, how many items and messages there were and
--- words were read of frames, and the picture
+-- a desk: the windows of its guests, and what is kept of the user's doings
 pub record DeskView : Type 0 where
-  pub border : ℕ
-  pub labels : List Colour
-  pub sessions : List SessionView
-  pub layers : Layers
-  pub items : ℕ
-  pub messages : ℕ
-  pub glances : ℕ
-  pub picture : PictureView
-
--- the session of nobody
-abbrev pub no_session : SessionView
-no_session =
-    opened 0 (record { width = 0; height = 0; border = 0; pages = 0; tiles = 0; percent = 0 }) (record { greeted = false; held = []; skipped = 0 })
+  pub windows : WindowsView
+  pub seat : Seat
 
 -- the session of a guest
 abbrev pub session_in : ℕ → DeskView → SessionView
-session_in guest desk = slice_index_or desk.sessions guest no_session
+session_in guest desk = windows.session_in guest desk.windows
 
 -- the picture of a desk
 abbrev pub picture_of : DeskView → PictureView
-picture_of desk = desk.picture
+picture_of desk = windows.picture_of desk.windows
 
 -- how many guests a desk has
 abbrev pub guests_of : DeskView → ℕ
-guests_of desk = length desk.sessions
+guests_of desk = windows.guests_of desk.windows
 
 -- how many pages each guest's frames have
 abbrev pub pages_of : DeskView → ℕ
-pages_of desk = (session_in 0 desk).sizes.pages
-
--- ---- the part of one guest
-
--- what one guest's bytes may change of a desk: its session, the stack, and the counts of messages and of words
-pub record PartView : Type 0 where
-  pub session : SessionView
-  pub layers : Layers
-  pub messages : ℕ
-  pub glances : ℕ
-
--- the part of a guest
-abbrev pub part_of : ℕ → DeskView → PartView
-part_of guest desk =
-    record { session = session_in guest desk; layers = desk.layers; messages = desk.messages; glances = desk.glances }
-
--- the desk with this part of a guest
-abbrev pub with_part : ℕ → PartView → DeskView → DeskView
-with_part guest part desk = record desk {
-  sessions = slice_set desk.sessions guest part.session;
-  layers = part.layers;
-  messages = part.messages;
-  glances = part.glances;
-}
-
--- nothing but the part of this guest changed
-pub record ChangesPart (guest : ℕ) (old new : DeskView) : Type 0 where
-  pub rest : new ≡ record old { sessions = new.sessions; layers = new.layers; messages = new.messages; glances = new.glances }
-  pub guests : guests_of new ≡ guests_of old
-  pub sizes : (session_in guest new).sizes ≡ (session_in guest old).sizes
-  pub others : (other : ℕ) → (other ≡ guest → ⊥) → session_in other new ≡ session_in other old
+pages_of desk = windows.pages_of desk.windows

@@ -29,8 +29,8 @@ pub record LeavesGuest (guest : ℕ) (old new : DeskView) (port port' : ℕ → 
 pub record TakesItem {O : Type 0} (takes : O → Post → O → Type 0) (out out' : O) (item : Item) (piece : List ℕ) (old new : DeskView) (frames frames' : ℕ → PortState) : Type 0 where
   pub rests : (setup : Setup) (state : DeskState) → Stands setup old frames state → IsAtRest setup new frames' (step setup item piece state).desk
   pub posts : (setup : Setup) (state : DeskState) → Stands setup old frames state → Leads takes out (guest_posts (step setup item piece state).posts) out'
-  pub drawn : item ≡ items.Snap → (setup : Setup) (state : DeskState) → Stands setup old frames state → new.picture.pixels ≡ picture setup state.scene.rows state.scene.layers
-  pub painted : (setup : Setup) (state : DeskState) → Stands setup old frames state → new.picture.painted ≡ painted_after setup item old.picture.painted
+  pub drawn : item ≡ items.Snap → (setup : Setup) (state : DeskState) → Stands setup old frames state → (picture_of new).pixels ≡ picture setup state.scene.rows state.scene.layers
+  pub painted : (setup : Setup) (state : DeskState) → Stands setup old frames state → (picture_of new).painted ≡ painted_after setup item (picture_of old).painted
   pub others : (guest other : ℕ) → is_item_of guest item ≡ true → (other ≡ guest → ⊥) → LeavesGuest other old new frames frames'
   pub sizes : KeepsExtent guests_of pages_of old new
 

@@ -12,7 +12,7 @@ use Rattle.guest_session.specs.Reading.{content_in}
 use Rattle.guest_session.specs.SessionView.{SessionView}
 use Rattle.window_table.specs.declared.pane.Pane.{Pane as Window}
 use Rattle.desk_core.specs.ShownView.{ShownView}
-use Rattle.desk_core.specs.DeskView.{no_session}
+use Rattle.desk_core.specs.WindowsView.{no_session}
 
 -- whether a window is shown: mapped, and its flag MINIMIZE not set
 abbrev pub is_shown_window : Window → Bool

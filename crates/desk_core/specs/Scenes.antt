@@ -8,7 +8,7 @@ use Rattle.desk_laws.specs.Scene.{Scene, Seat, Post, Delivery, deliver_all}
 use Rattle.desk_laws.specs.Settle.{settle}
 use Rattle.io_ports.specs.Posts.{Leads}
 use Rattle.guest_session.specs.SessionView.{SessionView, AreRows}
-use Rattle.desk_core.specs.DeskView.{no_session}
+use Rattle.desk_core.specs.WindowsView.{no_session}
 use Rattle.desk_core.specs.Panes.{rows_in}
 
 -- the session at a place, that of nobody behind the last one

@@ -1,31 +1,34 @@
-// The desktop: the sessions of its guests, the stack of their windows, and the picture of them.
-ghost use Rattle.std.specs.Prelude.{◌≡◌, ℕ, ◌<◌, ◌≤◌, ◌+◌, ◌*◌, List, length, map, slice_index_or, IfOk, IsTrue, false, true, if◌then◌else◌};
+// The desktop: the windows of its guests, and what the user does to them.
+ghost use Rattle.std.specs.Prelude.{◌≡◌, ℕ, ◌<◌, ◌≤◌, ◌+◌, ◌*◌, List, length, IfOk, IsTrue, false, true};
 ghost use Rattle.desk_laws.specs.declared.setup.Setup.{Setup};
 ghost use Rattle.desk_laws.specs.Rules.{first_broken};
 ghost use Rattle.desk_laws.specs.Items.{FitsItem, IsChange};
 ghost use Rattle.desk_laws.specs.Frames.{PortState, counted};
-ghost use Rattle.desk_laws.specs.Picture.{picture};
 ghost use Rattle.desk_laws.specs.Endings.{is_item_of};
 ghost use Rattle.desk_laws.specs.Scene.{Input};
 ghost use Rattle.desk_laws.specs.State.{DeskState, opening};
-ghost use Rattle.desk_laws.specs.Steps.{step, take_bytes, take_store, end_session};
-ghost use Rattle.io_ports.specs.Posts.{Leads};
-ghost use Rattle.desk_core.specs.DeskPosts.{guest_posts};
+ghost use Rattle.desk_laws.specs.Picture.{picture};
+ghost use Rattle.desk_laws.specs.Steps.{take_bytes, take_store, end_session};
 ghost use Rattle.frame_pool.specs.Ports.{AreZeros, ChangesFrames, HasExtent, KeepsExtent};
-ghost use Rattle.desk_core.specs.DeskView.{ChangesPart, guests_of, pages_of, part_of, no_session, picture_of, session_in};
-ghost use Rattle.desk_core.specs.DeskStands.{IsAtRest, IsFresh, PartStands, Stands, StepsTo, StoresTo, glances_in, item_counted, stepped_of, summary_of};
+ghost use Rattle.desk_core.specs.DeskView.{guests_of, pages_of, picture_of, session_in};
+ghost use Rattle.desk_core.specs.DeskStands.{IsAtRest, Stands, StepsTo, counted_in, stepped_of, summary_of};
+ghost use Rattle.desk_core.specs.EventItems.{TakesOn};
 ghost use Rattle.desk_core.specs.ItemSteps.{LeavesGuest, Steps, TakesItem};
-ghost use Rattle.desk_core.specs.PieceSteps.{TookSome, Settled, PushesPiece, held_by};
+ghost use Rattle.desk_core.specs.Pieces.{Drained, held_by};
+ghost use Rattle.desk_core.specs.PieceSteps.{Pushes, TookSome};
+ghost use Rattle.desk_core.specs.Scenes.{KeepSessions};
+ghost use Rattle.desk_core.specs.Settling.{HasSeat};
+ghost use Rattle.desk_core.specs.WindowsStand.{AreAtRest, StandsWith, StoresTo};
+ghost use Rattle.desk_core.specs.WindowsView.{ChangesPart, put};
 
-use crate::panes::{Shown, StackPanes, show_stack};
-use crate::stack::{follow, layer_of};
+use crate::summary::Summary;
+use crate::windows::Windows;
 use compositor::Picture;
-use desk_laws::{Cause, GuestSetup, Item, MAX_WINDOWS, RowId, Setup};
+use desk_laws::{Cause, Item, Setup};
 use frame_pool::FramePort;
-use guest_session::{Session, Turn};
-use gui_num::{Colour, NoMemory, Rect, area};
+use gui_num::NoMemory;
+use input_router::Router;
 use io_ports::Outlet;
-use stacking::Stacking;
 use std::alloc::Global;
 use std::marker::Model;
 
@@ -40,85 +43,24 @@ pub enum Stepped {
     Ended,
 }
 
-/// How many items and messages there were, how many words were read of frames, and how many pixels
-/// were drawn. Each number stays at 2^64 - 1 once it is there.
-#[derive(Clone, Copy, Debug, PartialEq, Eq)]
-pub struct Summary {
-    pub items: u64,
-    pub messages: u64,
-    pub glances: u64,
-    pub painted: u64,
-}
-
 /// A desktop with 1 to 16 guests. It takes the items of its input one after the other, answers each
-/// guest alone, reads a guest's frames where it says that they changed, and keeps a picture of what
-/// all of them show.
+/// guest alone, reads a guest's frames where it says that they changed, hands what the user does to the
+/// windows that it is for, tells them focus and hover, and keeps a picture of what all of them show.
 #[derive(Drop)]
 pub struct Desk {
-    border: u32,
-    labels: Vec<Colour>,
-    sessions: Vec<Session>,
-    stack: Stacking,
-    items: u64,
-    messages: u64,
-    glances: u64,
-    // What was shown when the picture was drawn last: the room is taken once, and filled at each Snap.
-    shown: Vec<Shown>,
-    picture: Picture,
+    windows: Windows,
+    router: Router,
 }
 
 impl Model for Desk {
-    ghost use Rattle.std.specs.Prelude.{vec_capacity, ◌≤◌};
     ghost use Rattle.desk_core.specs.DeskView.{DeskView};
-    ghost use Rattle.desk_core.specs.Kept.{IsKept};
+    ghost use Rattle.desk_core.specs.Seated.{AreSeated};
 
     ghost Value = { DeskView };
 
-    ghost view = { λ d. record { border = d.border; labels = d.labels.items; sessions = d.sessions.items; layers = d.stack.layers; items = d.items; messages = d.messages; glances = d.glances; picture = d.picture } };
+    ghost view = { λ d. record { windows = d.windows; seat = d.router } };
 
-    ghost invariant = { λ d. IsKept d.stack.rows (record { border = d.border; labels = d.labels.items; sessions = d.sessions.items; layers = d.stack.layers; items = d.items; messages = d.messages; glances = d.glances; picture = d.picture }) × (d.stack.rows ≤ vec_capacity d.shown) };
-}
-
-// A count, and one more where something counts.
-fn count_if(count: u64, counts: bool) -> u64
-    ensures { result ≡ counted (count + (if counts then 1 else 0)) }
-{
-    count.saturating_add(u64::from(counts))
-}
-
-// A count of words, and those of an area that was read, one for each pixel.
-fn count_read(count: u64, drawn: Option<Rect>) -> u64
-    ensures { result ≡ counted (count + glances_in drawn) }
-{
-    match drawn {
-        Some(read) => count.saturating_add(area(read)),
-        None => count,
-    }
-}
-
-// The label colour of each guest. `NoMemory` where there is none for them.
-fn labels_of(alloc: Global, guests: &[GuestSetup]) -> Result<Vec<Colour>, NoMemory>
-    ensures { IfOk result (λ labels. labels.items ≡ map (λ g. g.colour) guests.now) }
-{
-    let mut labels = Vec::with_capacity(alloc, guests.len())?;
-    for guest in guests {
-        labels.push_reserved(guest.colour);
-    }
-    Ok(labels)
-}
-
-// A session for each guest of a setup, in their order. `NoMemory` where there is none for them.
-fn open_sessions(alloc: Global, setup: &Setup) -> Result<Vec<Session>, NoMemory>
-    requires { first_broken setup.now ≡ None }
-    ensures count { IfOk result (λ sessions. length sessions.items ≡ length setup.now.guests) }
-    ensures fresh { IfOk result (λ sessions. (guest : ℕ) → guest < length setup.now.guests → IsFresh setup.now guest (slice_index_or sessions.items guest no_session)) }
-{
-    let count = setup.guests.items().len();
-    let mut sessions = Vec::with_capacity(alloc, count)?;
-    for guest in 0..count {
-        sessions.push_reserved(Session::open(alloc, guest as u32, setup)?);
-    }
-    Ok(sessions)
+    ghost invariant = { λ d. AreSeated d.windows d.router };
 }
 
 impl Desk {
@@ -131,63 +73,37 @@ impl Desk {
         ensures pages { IfOk result (λ d. pages_of d ≡ setup.now.pages) }
         ensures fresh { IfOk result (λ d. (picture_of d).painted ≡ 0) }
     {
-        let guests = setup.guests.items();
-        let windows = MAX_WINDOWS * guests.len() as u32;
         Ok(Desk {
-            border: setup.border,
-            labels: labels_of(alloc, guests)?,
-            sessions: open_sessions(alloc, setup)?,
-            stack: Stacking::new(alloc, windows)?,
-            items: 0,
-            messages: 0,
-            glances: 0,
-            shown: Vec::with_capacity(alloc, windows as usize)?,
-            picture: Picture::new(alloc, setup.width, setup.height, setup.background)?,
+            windows: Windows::open(alloc, setup)?,
+            router: Router::new(),
         })
     }
 
-    // Lets a guest's session take one unit off the bytes that it holds, and the stack follow it. Answers
-    // whether there was one, and the session hasn't ended.
+    // Takes one unit off the bytes that are held of a guest, and tells focus and hover where windows may
+    // have moved. Answers whether there was one, and the session hasn't ended.
     fn take_turn<P: FramePort, O: Outlet>(&mut self, guest: u32, port: &mut P, out: &mut O) -> bool
         requires there { guest < guests_of self.old }
         requires port { HasExtent P.guests P.pages port.old (guests_of self.old) (pages_of self.old) }
-        ensures took { (setup : Setup) (held : List ℕ) (state : DeskState) → PartStands setup guest held (part_of guest self.old) (P.state port.old guest) state → TookSome O.takes out.old out.new setup guest held (part_of guest self.old) (part_of guest self.new) (P.state port.new guest) state }
+        ensures took { (setup : Setup) (held : List ℕ) (others : ℕ → List ℕ) (frames : ℕ → PortState) (state : DeskState) → StandsWith setup (put guest held others) self.old.windows (put guest (P.state port.old guest) frames) state → HasSeat setup self.old.seat state
+            → TookSome O.takes out.old out.new setup guest held others self.old self.new (put guest (P.state port.new guest) frames) state }
         ensures fewer { IsTrue result → held_by (session_in guest self.new) < held_by (session_in guest self.old) }
-        ensures settled { result ≡ false → Settled (session_in guest self.new) }
-        ensures alone { ChangesPart guest self.old self.new }
+        ensures drained { result ≡ false → Drained (session_in guest self.new) }
+        ensures alone { ChangesPart guest self.old.windows self.new.windows }
         ensures port { ChangesFrames P.guests P.pages P.state guest port.old port.new }
     {
-        let session = &mut self.sessions[guest as usize];
-        let greeted = session.greeted();
-        match session.turn(port, out) {
-            Turn::Wait => false,
-            Turn::Changed { window, drawn } => {
-                let layer = layer_of(session, window);
-                follow(&mut self.stack, RowId { guest, window }, layer);
-                self.messages = count_if(self.messages, greeted);
-                self.glances = count_read(self.glances, drawn);
-                true
-            }
-            Turn::ClipWhole | Turn::ClipOver => {
-                session.clip_done();
-                self.messages = count_if(self.messages, true);
-                true
-            }
-            Turn::Ended(cause) => {
-                self.stack.leave_guest(guest);
-                out.ended(guest, cause);
-                false
-            }
-        }
+        let told = self.windows.turn(guest, port, out);
+        self.windows.settle(told, &mut self.router, out);
+        told.goes_on()
     }
 
     // Takes all whole units off the bytes that are held of a guest, until one ends its session.
     fn take_units<P: FramePort, O: Outlet>(&mut self, guest: u32, port: &mut P, out: &mut O)
         requires there { guest < guests_of self.old }
         requires port { HasExtent P.guests P.pages port.old (guests_of self.old) (pages_of self.old) }
-        ensures took { (setup : Setup) (held : List ℕ) (state : DeskState) → PartStands setup guest held (part_of guest self.old) (P.state port.old guest) state → TookSome O.takes out.old out.new setup guest held (part_of guest self.old) (part_of guest self.new) (P.state port.new guest) state }
-        ensures settled { Settled (session_in guest self.new) }
-        ensures alone { ChangesPart guest self.old self.new }
+        ensures took { (setup : Setup) (held : List ℕ) (others : ℕ → List ℕ) (frames : ℕ → PortState) (state : DeskState) → StandsWith setup (put guest held others) self.old.windows (put guest (P.state port.old guest) frames) state → HasSeat setup self.old.seat state
+            → TookSome O.takes out.old out.new setup guest held others self.old self.new (put guest (P.state port.new guest) frames) state }
+        ensures drained { Drained (session_in guest self.new) }
+        ensures alone { ChangesPart guest self.old.windows self.new.windows }
         ensures port { ChangesFrames P.guests P.pages P.state guest port.old port.new }
     {
         while self.take_turn(guest, port, out) {}
@@ -197,12 +113,10 @@ impl Desk {
     fn push(&mut self, guest: u32, piece: &[u8]) -> usize
         requires there { guest < guests_of self.old }
         ensures within { result ≤ length piece.now }
-        ensures some { Settled (session_in guest self.old) → 0 < length piece.now → 0 < result }
-        ensures pushed { PushesPiece (session_in guest self.old) (session_in guest self.new) piece.now result }
-        ensures alone { ChangesPart guest self.old self.new }
-        ensures part { part_of guest self.new ≡ record (part_of guest self.old) { session = session_in guest self.new } }
+        ensures some { Drained (session_in guest self.old) → 0 < length piece.now → 0 < result }
+        ensures pushed { Pushes guest self.old self.new piece.now result }
     {
-        self.sessions[guest as usize].push(piece)
+        self.windows.push(guest, piece)
     }
 
     // Takes a piece of a guest's bytes, however it is cut.
@@ -216,7 +130,7 @@ impl Desk {
         requires there { guest < guests_of self.old }
         requires port { HasExtent P.guests P.pages port.old (guests_of self.old) (pages_of self.old) }
         ensures took { (setup : Setup) (state : DeskState) → IsAtRest setup self.old (P.state port.old) state → StepsTo O.takes out.old out.new setup self.new (P.state port.new) (take_bytes setup guest piece.now state) }
-        ensures alone { ChangesPart guest self.old self.new }
+        ensures alone { ChangesPart guest self.old.windows self.new.windows }
         ensures port { ChangesFrames P.guests P.pages P.state guest port.old port.new }
     {
         self.take_units(guest, port, out);
@@ -228,19 +142,24 @@ impl Desk {
         }
     }
 
-    // Ends a guest's session from outside, unless it has ended: the guest is told why, and its windows
-    // are gone.
+    // Ends a guest's session from outside, unless it has ended: the guest is told why, its windows are
+    // gone, and the others are told focus and hover.
     fn end<O: Outlet>(&mut self, guest: u32, cause: Cause, out: &mut O)
         requires there { guest < guests_of self.old }
         ensures took { (setup : Setup) (frames : ℕ → PortState) (input : Input) (state : DeskState) → IsAtRest setup self.old frames state → StepsTo O.takes out.old out.new setup self.new frames (end_session setup guest input cause state) }
-        ensures alone { ChangesPart guest self.old self.new }
+        ensures alone { ChangesPart guest self.old.windows self.new.windows }
     {
-        if self.sessions[guest as usize].ended().is_some() {
-            return;
-        }
-        self.sessions[guest as usize].end(cause);
-        self.stack.leave_guest(guest);
-        out.ended(guest, cause);
+        let told = self.windows.end(guest, cause, out);
+        self.windows.settle(told, &mut self.router, out);
+    }
+
+    // Takes an event of the user.
+    fn event<O: Outlet>(&mut self, item: &Item, out: &mut O)
+        ensures took { TakesOn O.takes out.old out.new item.now self.old self.new }
+        ensures kept { KeepSessions self.old.windows.sessions self.new.windows.sessions }
+        ensures rest { self.new.windows ≡ record self.old.windows { sessions = self.new.windows.sessions; layers = self.new.windows.layers } }
+    {
+        self.windows.event(&mut self.router, item, out);
     }
 
     // Takes a change of a guest's frames, unless its session has ended.
@@ -256,39 +175,28 @@ impl Desk {
         requires port { HasExtent P.guests P.pages port.old (guests_of self.now) (pages_of self.now) }
         requires guest { guest < guests_of self.now }
         requires change { IsChange page offset (length piece.now) (pages_of self.now) }
-        ensures took { (setup : Setup) (state : DeskState) → IsAtRest setup self.now (P.state port.old) state → StoresTo setup self.now (P.state port.new) (take_store guest delay page offset piece.now state) }
+        ensures took { (setup : Setup) (state : DeskState) → AreAtRest setup self.now.windows (P.state port.old) state → StoresTo setup self.now.windows (P.state port.new) (take_store guest delay page offset piece.now state) }
         ensures port { ChangesFrames P.guests P.pages P.state guest port.old port.new }
     {
-        if self.sessions[guest as usize].ended().is_none() {
-            port.store(guest, delay, page, offset, piece);
-        }
+        self.windows
+            .take_store(guest, delay, page, offset, piece, port);
     }
 
     // Counts an item.
     fn count_item(&mut self)
-        ensures { self.new ≡ item_counted self.old }
+        ensures { self.new ≡ counted_in self.old }
     {
-        self.items = self.items.saturating_add(1);
+        self.windows.count_item();
     }
 
     // Draws the picture anew, each pixel once.
     fn draw(&mut self)
-        ensures desk { self.new ≡ record self.old { picture = self.new.picture } }
-        ensures sides { (self.new.picture.width ≡ self.old.picture.width) × (self.new.picture.height ≡ self.old.picture.height) × (self.new.picture.background ≡ self.old.picture.background) }
-        ensures painted { self.new.picture.painted ≡ counted (self.old.picture.painted + self.old.picture.width * self.old.picture.height) }
-        ensures pixels { (setup : Setup) (frames : ℕ → PortState) (state : DeskState) → Stands setup self.old frames state → self.new.picture.pixels ≡ picture setup state.scene.rows state.scene.layers }
+        ensures desk { self.new ≡ record self.old { windows = record self.old.windows { picture = picture_of self.new } } }
+        ensures sides { ((picture_of self.new).width ≡ (picture_of self.old).width) × ((picture_of self.new).height ≡ (picture_of self.old).height) × ((picture_of self.new).background ≡ (picture_of self.old).background) }
+        ensures painted { (picture_of self.new).painted ≡ counted ((picture_of self.old).painted + (picture_of self.old).width * (picture_of self.old).height) }
+        ensures pixels { (setup : Setup) (frames : ℕ → PortState) (state : DeskState) → AreAtRest setup self.old.windows frames state → (picture_of self.new).pixels ≡ picture setup state.scene.rows state.scene.layers }
     {
-        show_stack(
-            &mut self.shown,
-            &self.sessions,
-            &self.stack,
-            &self.labels,
-            self.border,
-        );
-        self.picture.paint(&StackPanes {
-            sessions: &self.sessions,
-            shown: &self.shown,
-        });
+        self.windows.draw();
     }
 
     // Takes one item with its piece, and answers what it did.
@@ -340,7 +248,12 @@ impl Desk {
                 self.count_item();
                 Stepped::Ended
             }
-            _ => Stepped::Going,
+            Item::Idle => Stepped::Going,
+            _ => {
+                self.count_item();
+                self.event(item, out);
+                Stepped::Going
+            }
         }
     }
 
@@ -375,7 +288,7 @@ impl Desk {
     pub fn picture(&self) -> &Picture
         ensures { result.now ≡ picture_of self.now }
     {
-        &self.picture
+        self.windows.picture()
     }
 
     /// How much there was so far.
@@ -383,11 +296,6 @@ impl Desk {
         ensures is { result ≡ summary_of self.now }
         ensures counts { (setup : Setup) (frames : ℕ → PortState) (state : DeskState) → Stands setup self.now frames state → result ≡ record { items = state.counts.items; messages = state.counts.messages; glances = state.counts.glances; painted = (picture_of self.now).painted } }
     {
-        Summary {
-            items: self.items,
-            messages: self.messages,
-            glances: self.glances,
-            painted: self.picture.painted(),
-        }
+        self.windows.summary()
     }
 }

@@ -7,13 +7,17 @@
 
 mod deliveries;
 mod desk;
+mod events;
 mod grants;
 mod panes;
 mod places;
 mod settle;
 mod stack;
+mod summary;
 #[cfg(test)]
 mod tests;
+mod windows;
 
 pub use compositor::Picture;
-pub use desk::{Desk, Stepped, Summary};
+pub use desk::{Desk, Stepped};
+pub use summary::Summary;

@@ -1,11 +1,10 @@
-use Rattle.std.proofs.Common.{sym, subst, ℕ}
-use Rattle.desk_core.specs.Kept.{IsKept}
-use Rattle.desk_core.proofs.KeptLemmas.{counts-kept}
+use Rattle.std.proofs.Common.{sym, subst}
+use Rattle.desk_core.specs.Seated.{AreSeated}
+use Rattle.desk_core.specs.WindowsView.{WindowsView}
+use Rattle.desk_core.proofs.PieceLemmas.{seated-counted}
 use Rattle.desk_core.proofs.desk.Desk.count_item.Goals as goal
 
 pub invariant_of-self : goal.invariant_of-self
 invariant_of-self c =
-    let i = c.self.inside in
-    let P : ℕ → Type 0 = λ n. IsKept i.stack.rows
-    (record { border = i.border; labels = i.labels.items; sessions = i.sessions.items; layers = i.stack.layers; items = n; messages = i.messages; glances = i.glances; picture = i.picture }) in
-    (subst P (sym c.saturating_add-self-inside.ensures) (counts-kept i.stack.rows _ c.self.invariant.0), c.self.invariant.1)
+    let W : WindowsView → Type 0 = λ w. AreSeated w c.self.inside.router in
+    subst W (sym c.count_item.ensures) (seated-counted c.self.inside.windows c.self.inside.router c.self.invariant)

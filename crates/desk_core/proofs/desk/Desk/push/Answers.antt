@@ -1,10 +1,10 @@
-use Rattle.desk_core.proofs.DeskEnds.{pushes, push-kept}
+use Rattle.std.proofs.Common.{ap, arith}
+use Rattle.desk_core.specs.DeskView.{guests_of}
+use Rattle.desk_core.proofs.PieceLemmas.{seated-pushed}
 use Rattle.desk_core.proofs.desk.Desk.push.Goals as goal
 
 pub invariant_of-self : goal.invariant_of-self
 invariant_of-self c =
-    let s = c.index_mut.result.now in (
-      push-kept c.args.guest _ c.args.self.now c.self.view_is c.requires.there s c.push.new.self c.index_mut.ensures.value c.args.piece.now c.push.result
-          (pushes s c.push.new.self c.args.piece.now c.push.result c.push.ensures.kept c.push.ensures.greeted c.push.ensures.stands) c.self.inside.stack.rows c.self.invariant.0,
-      c.self.invariant.1,
-    )
+    let push = c.push.ensures in
+    seated-pushed c.args.guest c.self.inside.windows c.push.new.self c.self.inside.router c.args.piece.now c.push.result c.self.invariant
+    (omega (arith, c.requires.there, ap guests_of c.self.view_is)) push.pushed push.alone push.part

@@ -6,11 +6,10 @@ pub returns-clause-steps : goal.returns-clause-steps
 returns-clause-steps g c = λ setup state stands.
     let took = c.take_item.ensures.took in
     record {
-      stands = stands-after setup c.args.self.now c.take_item.new.self (g.P.FramePort.state c.args.port.now) (g.P.FramePort.state c.take_item.new.port) state _ _ _ c.args.item.now c.args.piece.now stands c.requires.range
-          (took.rests setup state stands);
+      stands = stands-after setup c.args.self.now c.take_item.new.self (g.P.FramePort.state c.args.port.now) (g.P.FramePort.state c.take_item.new.port) state c.args.item.now c.args.piece.now stands (took.rests setup state stands);
       posts = took.posts setup state stands;
       drawn = λ snap. took.drawn snap setup state stands;
       painted = took.painted setup state stands;
       edges = edges-apart setup c.args.self.now (g.P.FramePort.state c.args.port.now) state stands;
-      limits = (steps-keep_sound setup c.args.item.now c.args.piece.now state c.requires.range.there stands.sound).limits;
+      limits = (steps-keep_sound setup c.args.item.now c.args.piece.now state stands.sound).limits;
     }

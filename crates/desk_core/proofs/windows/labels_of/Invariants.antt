@@ -1,5 +1,5 @@
 use Rattle.std.proofs.Common.{◌≡◌, ◌≤◌, length, map, take, vec_capacity}
-use Rattle.desk_core.proofs.desk.labels_of.Given as goal
+use Rattle.desk_core.proofs.windows.labels_of.Given as goal
 
 abbrev pub invariant-loop-guest : goal.invariant-loop-guest
 invariant-loop-guest l =

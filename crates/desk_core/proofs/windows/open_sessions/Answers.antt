@@ -1,10 +1,10 @@
 use Rattle.std.proofs.Common.{◌∙◌, ℕ, ◌+◌, ◌<◌, ◌∷◌, [], List, length, length-append, ap, arith, subst, sym}
 use Rattle.std.specs.Prelude.{slice_index_or}
 use Rattle.guest_session.specs.SessionView.{SessionView}
-use Rattle.desk_core.specs.DeskView.{no_session}
-use Rattle.desk_core.specs.DeskStands.{IsFresh}
+use Rattle.desk_core.specs.WindowsView.{no_session}
+use Rattle.desk_core.specs.WindowsStand.{IsFresh}
 use Rattle.desk_core.proofs.OpeningStands.{fresh-more}
-use Rattle.desk_core.proofs.desk.open_sessions.Goals as goal
+use Rattle.desk_core.proofs.windows.open_sessions.Goals as goal
 
 pub loop-guest-preserved : goal.loop-guest-preserved
 loop-guest-preserved c =

@@ -1,8 +1,8 @@
 use Rattle.std.proofs.Common.{◌≡◌, ℕ, ◌<◌, ◌≤◌, length, vec_capacity}
 use Rattle.std.specs.Prelude.{slice_index_or}
-use Rattle.desk_core.specs.DeskView.{no_session}
-use Rattle.desk_core.specs.DeskStands.{IsFresh}
-use Rattle.desk_core.proofs.desk.open_sessions.Given as goal
+use Rattle.desk_core.specs.WindowsView.{no_session}
+use Rattle.desk_core.specs.WindowsStand.{IsFresh}
+use Rattle.desk_core.proofs.windows.open_sessions.Given as goal
 
 abbrev pub invariant-loop-guest : goal.invariant-loop-guest
 invariant-loop-guest l = record {

@@ -16,19 +16,22 @@ use Rattle.guest_session.specs.declared.turn.Turn.{Turn}
 use Rattle.guest_session.specs.declared.turn.Turn.TheVariants as turns
 use Rattle.guest_session.specs.Clips.{HasClip}
 use Rattle.guest_session.specs.SessionView.{SessionView, HasRows, with_stream}
-use Rattle.desk_core.specs.DeskView.{DeskView, PartView, ChangesPart, guests_of, no_session, part_of, session_in, with_part}
-use Rattle.desk_core.specs.DeskStands.{PartStands, glances_in}
+use Rattle.desk_core.specs.declared.windows.Told.{Told}
+use Rattle.desk_core.specs.declared.windows.Told.TheVariants as answers
+use Rattle.desk_core.specs.Telling.{TookTold, answer_of}
+use Rattle.desk_core.specs.WindowsView.{WindowsView, PartView, ChangesPart, guests_of, no_session, part_of, session_in, with_part}
+use Rattle.desk_core.specs.WindowsStand.{PartStands, glances_in}
 use Rattle.desk_core.specs.Kept.{IsKept}
-use Rattle.desk_core.specs.PieceSteps.{TookSome, Settled, held_by}
+use Rattle.desk_core.specs.Pieces.{Drained, held_by}
 use Rattle.desk_core.specs.Stacked.{id_in, layer_in, after_layer}
 use Rattle.desk_core.proofs.ClipTurns.{IsClipTurn}
 use Rattle.desk_core.proofs.JoinLemmas.{part-alone, part-in}
-use Rattle.desk_core.proofs.KeptLemmas.{kept-part, room-for, state-at, took-kept}
+use Rattle.desk_core.proofs.KeptLemmas.{kept-part, room-for, state-at, told-kept}
 use Rattle.desk_core.proofs.StandLemmas.{moved}
-use Rattle.desk_core.proofs.TurnExits.{Turned, Over, IsBusy, exit-changed, exit-clip, exit-clip_fewer, exit-ended, exit-fewer, exit-has_clip, exit-settled, exit-over, exit-stays, exit-waits}
+use Rattle.desk_core.proofs.TurnExits.{Turned, Over, IsBusy, exit-changed, exit-clip, exit-clip_fewer, exit-ended, exit-fewer, exit-has_clip, exit-drained, exit-over, exit-stays, exit-waits}
 
 -- the session at a guest's place
-pub session-at : (desk : DeskView) (guest : ℕ) (s : SessionView) → guest < guests_of desk → s ≡ get_or desk.sessions guest s → s ≡ session_in guest desk
+pub session-at : (desk : WindowsView) (guest : ℕ) (s : SessionView) → guest < guests_of desk → s ≡ get_or desk.sessions guest s → s ≡ session_in guest desk
 session-at desk guest s there at = at ∙ get_or_default desk.sessions guest s no_session there
 
 -- what `turn` ensures of a session and of its own guest's frames, as said of this guest's
@@ -48,38 +51,38 @@ over-in out out' frames frames' s old new turn guest same owner over =
 
 -- ---- a part in the desk
 
-module _ (guest : ℕ) (old now : DeskView) (is : old ≡ now) (there : guest < guests_of old) (last : PartView) where
+module _ (guest : ℕ) (old now : WindowsView) (is : old ≡ now) (there : guest < guests_of old) (last : PartView) where
   session-after : session_in guest (with_part guest last old) ≡ last.session
   session-after = ap (λ (p : PartView). p.session) (part-in guest last old there)
 
-  took-in : {O : Type 0} (takes : O → Post → O → Type 0) (out out' : O) (port port' : PortState)
-      → ((setup : Setup) (held : List ℕ) (state : DeskState) → PartStands setup guest held (part_of guest old) port state → TookSome takes out out' setup guest held (part_of guest old) last port' state)
+  took-in : {O : Type 0} (takes : O → Post → O → Type 0) (out out' : O) (answer : Told) (port port' : PortState)
+      → ((setup : Setup) (held : List ℕ) (state : DeskState) → PartStands setup guest held (part_of guest old) port state → TookTold takes out out' answer setup guest held (part_of guest old) last port' state)
       → (setup : Setup) (held : List ℕ) (state : DeskState) → PartStands setup guest held (part_of guest now) port state
-      → TookSome takes out out' setup guest held (part_of guest now) (part_of guest (with_part guest last old)) port' state
-  took-in takes out out' port port' took =
-      let D : DeskView → Type 0 = λ d. (setup : Setup) (held : List ℕ) (state : DeskState) → PartStands setup guest held (part_of guest d) port state
-      → TookSome takes out out' setup guest held (part_of guest d) (part_of guest (with_part guest last old)) port' state in
+      → TookTold takes out out' answer setup guest held (part_of guest now) (part_of guest (with_part guest last old)) port' state
+  took-in takes out out' answer port port' took =
+      let D : WindowsView → Type 0 = λ d. (setup : Setup) (held : List ℕ) (state : DeskState) → PartStands setup guest held (part_of guest d) port state
+      → TookTold takes out out' answer setup guest held (part_of guest d) (part_of guest (with_part guest last old)) port' state in
       subst D is (λ setup held state stands.
-      let V : PartView → Type 0 = λ p. TookSome takes out out' setup guest held (part_of guest old) p port' state in
+      let V : PartView → Type 0 = λ p. TookTold takes out out' answer setup guest held (part_of guest old) p port' state in
       subst V (sym (part-in guest last old there)) (took setup held state stands))
 
   alone-in : last.session.sizes ≡ (session_in guest old).sizes → ChangesPart guest now (with_part guest last old)
-  alone-in sizes = let D : DeskView → Type 0 = λ d. ChangesPart guest d (with_part guest last old) in subst D is (part-alone guest last old there sizes)
+  alone-in sizes = let D : WindowsView → Type 0 = λ d. ChangesPart guest d (with_part guest last old) in subst D is (part-alone guest last old there sizes)
 
   fewer-in : held_by last.session < held_by (session_in guest old) → held_by (session_in guest (with_part guest last old)) < held_by (session_in guest now)
   fewer-in fewer = omega (arith, fewer, ap held_by session-after, ap (λ d. held_by (session_in guest d)) is)
 
-  settled-in : Settled last.session → Settled (session_in guest (with_part guest last old))
-  settled-in settled = let P : SessionView → Type 0 = λ s. Settled s in subst P (sym session-after) settled
+  drained-in : Drained last.session → Drained (session_in guest (with_part guest last old))
+  drained-in drained = let P : SessionView → Type 0 = λ s. Drained s in subst P (sym session-after) drained
 
 -- the numbers of a session stay
-took-sizes : {O : Type 0} (takes : O → Post → O → Type 0) (out out' : O) (setup : Setup) (guest : ℕ) (held : List ℕ) (part last : PartView) (port port' : PortState) (state : DeskState)
-    → PartStands setup guest held part port state → TookSome takes out out' setup guest held part last port' state → last.session.sizes ≡ part.session.sizes
-took-sizes takes out out' setup guest held part last port port' state stands took = took.leads.0.sizes ∙ sym stands.sizes
+took-sizes : {O : Type 0} (takes : O → Post → O → Type 0) (out out' : O) (answer : Told) (setup : Setup) (guest : ℕ) (held : List ℕ) (part last : PartView) (port port' : PortState) (state : DeskState)
+    → PartStands setup guest held part port state → TookTold takes out out' answer setup guest held part last port' state → last.session.sizes ≡ part.session.sizes
+took-sizes takes out out' answer setup guest held part last port port' state stands took = took.leads.0.sizes ∙ sym stands.sizes
 
 -- ---- the turns
 
-module _ {O : Type 0} (takes : O → Post → O → Type 0) (out mid : O) (guest : ℕ) (old now : DeskView) (room : ℕ) (is : old ≡ now) (there_now : guest < guests_of now) (kept : IsKept room old)
+module _ {O : Type 0} (takes : O → Post → O → Type 0) (out mid : O) (guest : ℕ) (old now : WindowsView) (room : ℕ) (is : old ≡ now) (there_now : guest < guests_of now) (kept : IsKept room old)
     (s new : SessionView) (at : s ≡ get_or old.sessions guest s) (frames frames' : ℕ → PortState) (turn : Turn)
     (turned : Turned takes out mid (frames s.guest) (frames' s.guest) s new turn) (over : Over out mid (frames s.guest) (frames' s.guest) s new turn) where
   there : guest < guests_of old
@@ -102,59 +105,59 @@ module _ {O : Type 0} (takes : O → Post → O → Type 0) (out mid : O) (guest
   over' = over-in out mid frames frames' s (session_in guest old) new turn guest (session-at old guest s there at) stood.owner over
 
   -- what follows of a turn after which this is the part, for all that the desk may stand for
-  took-keeps : (out' : O) (last : PartView)
-      → ((setup : Setup) (held : List ℕ) (st : DeskState) → PartStands setup guest held part (frames guest) st → TookSome takes out out' setup guest held part last (frames' guest) st)
+  took-keeps : (out' : O) (answer : Told) (last : PartView)
+      → ((setup : Setup) (held : List ℕ) (st : DeskState) → PartStands setup guest held part (frames guest) st → TookTold takes out out' answer setup guest held part last (frames' guest) st)
       → IsKept room (with_part guest last old)
-  took-keeps out' last took = took-kept takes out out' room guest old last (frames guest) (frames' guest) kept there (took kept.setup (kept.held guest) state stood)
+  took-keeps out' answer last took = told-kept takes out out' answer room guest old last (frames guest) (frames' guest) kept there (took kept.setup (kept.held guest) state stood)
 
-  took-now : (out' : O) (last : PartView)
-      → ((setup : Setup) (held : List ℕ) (st : DeskState) → PartStands setup guest held part (frames guest) st → TookSome takes out out' setup guest held part last (frames' guest) st)
+  took-now : (out' : O) (answer : Told) (last : PartView)
+      → ((setup : Setup) (held : List ℕ) (st : DeskState) → PartStands setup guest held part (frames guest) st → TookTold takes out out' answer setup guest held part last (frames' guest) st)
       → (setup : Setup) (held : List ℕ) (st : DeskState) → PartStands setup guest held (part_of guest now) (frames guest) st
-      → TookSome takes out out' setup guest held (part_of guest now) (part_of guest (with_part guest last old)) (frames' guest) st
-  took-now out' last took = took-in guest old now is there last takes out out' (frames guest) (frames' guest) took
+      → TookTold takes out out' answer setup guest held (part_of guest now) (part_of guest (with_part guest last old)) (frames' guest) st
+  took-now out' answer last took = took-in guest old now is there last takes out out' answer (frames guest) (frames' guest) took
 
-  took-alone : (out' : O) (last : PartView)
-      → ((setup : Setup) (held : List ℕ) (st : DeskState) → PartStands setup guest held part (frames guest) st → TookSome takes out out' setup guest held part last (frames' guest) st)
+  took-alone : (out' : O) (answer : Told) (last : PartView)
+      → ((setup : Setup) (held : List ℕ) (st : DeskState) → PartStands setup guest held part (frames guest) st → TookTold takes out out' answer setup guest held part last (frames' guest) st)
       → ChangesPart guest now (with_part guest last old)
-  took-alone out' last took =
+  took-alone out' answer last took =
       alone-in guest old now is there last
-      (took-sizes takes out out' kept.setup guest (kept.held guest) part last (frames guest) (frames' guest) state stood (took kept.setup (kept.held guest) state stood))
+      (took-sizes takes out out' answer kept.setup guest (kept.held guest) part last (frames guest) (frames' guest) state stood (took kept.setup (kept.held guest) state stood))
 
 -- ---- nothing whole is there
 
-module _ {O : Type 0} (takes : O → Post → O → Type 0) (out mid : O) (guest : ℕ) (old now : DeskView) (room : ℕ) (is : old ≡ now) (there_now : guest < guests_of now) (kept : IsKept room old)
+module _ {O : Type 0} (takes : O → Post → O → Type 0) (out mid : O) (guest : ℕ) (old now : WindowsView) (room : ℕ) (is : old ≡ now) (there_now : guest < guests_of now) (kept : IsKept room old)
     (s new : SessionView) (at : s ≡ get_or old.sessions guest s) (frames frames' : ℕ → PortState)
     (turned : Turned takes out mid (frames s.guest) (frames' s.guest) s new turns.Wait) (over : Over out mid (frames s.guest) (frames' s.guest) s new turns.Wait) where
-  waited : (setup : Setup) (held : List ℕ) (st : DeskState) → PartStands setup guest held (part_of guest old) (frames guest) st → TookSome takes out mid setup guest held (part_of guest old) (moved new old.layers old.messages old.glances) (frames' guest) st
+  waited : (setup : Setup) (held : List ℕ) (st : DeskState) → PartStands setup guest held (part_of guest old) (frames guest) st → TookTold takes out mid answers.Waits setup guest held (part_of guest old) (moved new old.layers old.messages old.glances) (frames' guest) st
   waited setup held st stands = exit-stays takes out mid setup guest held (part_of guest old) new (frames guest) (frames' guest) st stands (turned' takes out mid guest old now room is there_now kept s new at frames frames' turns.Wait turned over) (over' takes out mid guest old now room is there_now kept s new at frames frames' turns.Wait turned over)
 
   pub wait-kept : IsKept room (with_part guest (moved new old.layers old.messages old.glances) old)
-  wait-kept = took-keeps takes out mid guest old now room is there_now kept s new at frames frames' turns.Wait turned over mid (moved new old.layers old.messages old.glances) waited
+  wait-kept = took-keeps takes out mid guest old now room is there_now kept s new at frames frames' turns.Wait turned over mid answers.Waits (moved new old.layers old.messages old.glances) waited
 
   pub wait-took : (setup : Setup) (held : List ℕ) (st : DeskState) → PartStands setup guest held (part_of guest now) (frames guest) st
-      → TookSome takes out mid setup guest held (part_of guest now) (part_of guest (with_part guest (moved new old.layers old.messages old.glances) old)) (frames' guest) st
-  wait-took = took-now takes out mid guest old now room is there_now kept s new at frames frames' turns.Wait turned over mid (moved new old.layers old.messages old.glances) waited
+      → TookTold takes out mid answers.Waits setup guest held (part_of guest now) (part_of guest (with_part guest (moved new old.layers old.messages old.glances) old)) (frames' guest) st
+  wait-took = took-now takes out mid guest old now room is there_now kept s new at frames frames' turns.Wait turned over mid answers.Waits (moved new old.layers old.messages old.glances) waited
 
   pub wait-alone : ChangesPart guest now (with_part guest (moved new old.layers old.messages old.glances) old)
-  wait-alone = took-alone takes out mid guest old now room is there_now kept s new at frames frames' turns.Wait turned over mid (moved new old.layers old.messages old.glances) waited
+  wait-alone = took-alone takes out mid guest old now room is there_now kept s new at frames frames' turns.Wait turned over mid answers.Waits (moved new old.layers old.messages old.glances) waited
 
-  pub wait-settled : Settled (session_in guest (with_part guest (moved new old.layers old.messages old.glances) old))
-  wait-settled =
+  pub wait-drained : Drained (session_in guest (with_part guest (moved new old.layers old.messages old.glances) old))
+  wait-drained =
       let stood' = stood takes out mid guest old now room is there_now kept s new at frames frames' turns.Wait turned over in
       let st = state takes out mid guest old now room is there_now kept s new at frames frames' turns.Wait turned over in
       let same = (exit-waits takes out mid kept.setup guest (kept.held guest) (part_of guest old) new (frames guest) (frames' guest) st stood' (turned' takes out mid guest old now room is there_now kept s new at frames frames' turns.Wait turned over) (over' takes out mid guest old now room is there_now kept s new at frames frames' turns.Wait turned over)).0 in
-      let P : SessionView → Type 0 = λ x. Settled x in
-      settled-in guest old now is (there takes out mid guest old now room is there_now kept s new at frames frames' turns.Wait turned over) (moved new old.layers old.messages old.glances)
-      (subst P (sym same) (exit-settled takes out mid kept.setup guest (kept.held guest) (part_of guest old) new (frames guest) (frames' guest) st stood' (turned' takes out mid guest old now room is there_now kept s new at frames frames' turns.Wait turned over) (over' takes out mid guest old now room is there_now kept s new at frames frames' turns.Wait turned over)))
+      let P : SessionView → Type 0 = λ x. Drained x in
+      drained-in guest old now is (there takes out mid guest old now room is there_now kept s new at frames frames' turns.Wait turned over) (moved new old.layers old.messages old.glances)
+      (subst P (sym same) (exit-drained takes out mid kept.setup guest (kept.held guest) (part_of guest old) new (frames guest) (frames' guest) st stood' (turned' takes out mid guest old now room is there_now kept s new at frames frames' turns.Wait turned over) (over' takes out mid guest old now room is there_now kept s new at frames frames' turns.Wait turned over)))
 
 -- ---- a message or the version word
 
-module _ {O : Type 0} (takes : O → Post → O → Type 0) (out mid : O) (guest : ℕ) (old now : DeskView) (room : ℕ) (is : old ≡ now) (there_now : guest < guests_of now) (kept : IsKept room old)
+module _ {O : Type 0} (takes : O → Post → O → Type 0) (out mid : O) (guest : ℕ) (old now : WindowsView) (room : ℕ) (is : old ≡ now) (there_now : guest < guests_of now) (kept : IsKept room old)
     (s new : SessionView) (at : s ≡ get_or old.sessions guest s) (frames frames' : ℕ → PortState) (window : ℕ) (drawn : Option Rect)
     (turned : Turned takes out mid (frames s.guest) (frames' s.guest) s new (turns.Changed window drawn)) (over : Over out mid (frames s.guest) (frames' s.guest) s new (turns.Changed window drawn)) where
   changed-all : (layer : Option Bool) (layers : Layers) (messages glances : ℕ) → HasRows new → layer ≡ layer_in (row_with window new.rows) → layers ≡ after_layer (id_in guest window) layer old.layers
       → messages ≡ counted (old.messages + (if (session_in guest old).stream.greeted then 1 else 0)) → glances ≡ counted (old.glances + glances_in drawn)
-      → (setup : Setup) (held : List ℕ) (st : DeskState) → PartStands setup guest held (part_of guest old) (frames guest) st → TookSome takes out mid setup guest held (part_of guest old) (moved new layers messages glances) (frames' guest) st
+      → (setup : Setup) (held : List ℕ) (st : DeskState) → PartStands setup guest held (part_of guest old) (frames guest) st → TookTold takes out mid (answer_of drawn) setup guest held (part_of guest old) (moved new layers messages glances) (frames' guest) st
   changed-all layer layers messages glances own in_layer made count seen setup held st stands =
       exit-changed takes out mid setup guest held (part_of guest old) new (frames guest) (frames' guest) st stands window drawn layer layers messages glances (turned' takes out mid guest old now room is there_now kept s new at frames frames' (turns.Changed window drawn) turned over) (over' takes out mid guest old now room is there_now kept s new at frames frames' (turns.Changed window drawn) turned over) own in_layer made count seen
 
@@ -164,7 +167,7 @@ module _ {O : Type 0} (takes : O → Post → O → Type 0) (out mid : O) (guest
       let layers = after_layer (id_in guest window) layer old.layers in
       let messages = counted (old.messages + (if (session_in guest old).stream.greeted then 1 else 0)) in
       let glances = counted (old.glances + glances_in drawn) in
-      room-for room (with_part guest (moved new layers messages glances) old) (took-keeps takes out mid guest old now room is there_now kept s new at frames frames' (turns.Changed window drawn) turned over mid (moved new layers messages glances) (changed-all layer layers messages glances own in_layer refl refl refl))
+      room-for room (with_part guest (moved new layers messages glances) old) (took-keeps takes out mid guest old now room is there_now kept s new at frames frames' (turns.Changed window drawn) turned over mid (answer_of drawn) (moved new layers messages glances) (changed-all layer layers messages glances own in_layer refl refl refl))
 
   pub changed-fewer : (layers : Layers) (messages glances : ℕ) → held_by (session_in guest (with_part guest (moved new layers messages glances) old)) < held_by (session_in guest now)
   changed-fewer layers messages glances =
@@ -177,37 +180,37 @@ module _ {O : Type 0} (takes : O → Post → O → Type 0) (out mid : O) (guest
     counts = count ∙ ap (λ b. counted (old.messages + (if b then 1 else 0))) (same ∙ ap (λ (x : SessionView). x.stream.greeted) (session-at old guest s (there takes out mid guest old now room is there_now kept s new at frames frames' (turns.Changed window drawn) turned over) at))
 
     pub changed-kept : IsKept room (with_part guest (moved new layers messages glances) old)
-    changed-kept = took-keeps takes out mid guest old now room is there_now kept s new at frames frames' (turns.Changed window drawn) turned over mid (moved new layers messages glances) (changed-all layer layers messages glances own in_layer made counts seen)
+    changed-kept = took-keeps takes out mid guest old now room is there_now kept s new at frames frames' (turns.Changed window drawn) turned over mid (answer_of drawn) (moved new layers messages glances) (changed-all layer layers messages glances own in_layer made counts seen)
 
     pub changed-took : (setup : Setup) (held : List ℕ) (st : DeskState) → PartStands setup guest held (part_of guest now) (frames guest) st
-        → TookSome takes out mid setup guest held (part_of guest now) (part_of guest (with_part guest (moved new layers messages glances) old)) (frames' guest) st
-    changed-took = took-now takes out mid guest old now room is there_now kept s new at frames frames' (turns.Changed window drawn) turned over mid (moved new layers messages glances) (changed-all layer layers messages glances own in_layer made counts seen)
+        → TookTold takes out mid (answer_of drawn) setup guest held (part_of guest now) (part_of guest (with_part guest (moved new layers messages glances) old)) (frames' guest) st
+    changed-took = took-now takes out mid guest old now room is there_now kept s new at frames frames' (turns.Changed window drawn) turned over mid (answer_of drawn) (moved new layers messages glances) (changed-all layer layers messages glances own in_layer made counts seen)
 
     pub changed-alone : ChangesPart guest now (with_part guest (moved new layers messages glances) old)
-    changed-alone = took-alone takes out mid guest old now room is there_now kept s new at frames frames' (turns.Changed window drawn) turned over mid (moved new layers messages glances) (changed-all layer layers messages glances own in_layer made counts seen)
+    changed-alone = took-alone takes out mid guest old now room is there_now kept s new at frames frames' (turns.Changed window drawn) turned over mid (answer_of drawn) (moved new layers messages glances) (changed-all layer layers messages glances own in_layer made counts seen)
 
 -- ---- clipboard data
 
-module _ {O : Type 0} (takes : O → Post → O → Type 0) (out mid : O) (guest : ℕ) (old now : DeskView) (room : ℕ) (is : old ≡ now) (there_now : guest < guests_of now) (kept : IsKept room old)
+module _ {O : Type 0} (takes : O → Post → O → Type 0) (out mid : O) (guest : ℕ) (old now : WindowsView) (room : ℕ) (is : old ≡ now) (there_now : guest < guests_of now) (kept : IsKept room old)
     (s new : SessionView) (at : s ≡ get_or old.sessions guest s) (frames frames' : ℕ → PortState) (turn : Turn) (clip : IsBusy turn × IsClipTurn turn)
     (turned : Turned takes out mid (frames s.guest) (frames' s.guest) s new turn) (over : Over out mid (frames s.guest) (frames' s.guest) s new turn) where
   pub clip-there : HasClip new.stream
   clip-there = exit-has_clip takes out mid kept.setup guest (kept.held guest) (part_of guest old) new (frames guest) (frames' guest) (state takes out mid guest old now room is there_now kept s new at frames frames' turn turned over) (stood takes out mid guest old now room is there_now kept s new at frames frames' turn turned over) turn clip.0 clip.1 (turned' takes out mid guest old now room is there_now kept s new at frames frames' turn turned over) (over' takes out mid guest old now room is there_now kept s new at frames frames' turn turned over)
 
   module _ (last : SessionView) (messages : ℕ) (same : last ≡ with_stream last.stream new) (drops : DropsUnit new.stream last.stream) (greeted : last.stream.greeted ≡ true) (count : messages ≡ counted (old.messages + 1)) where
-    clipped : (setup : Setup) (held : List ℕ) (st : DeskState) → PartStands setup guest held (part_of guest old) (frames guest) st → TookSome takes out mid setup guest held (part_of guest old) (moved last old.layers messages old.glances) (frames' guest) st
+    clipped : (setup : Setup) (held : List ℕ) (st : DeskState) → PartStands setup guest held (part_of guest old) (frames guest) st → TookTold takes out mid answers.Changed setup guest held (part_of guest old) (moved last old.layers messages old.glances) (frames' guest) st
     clipped setup held st stands =
         exit-clip takes out mid setup guest held (part_of guest old) new (frames guest) (frames' guest) st stands turn last messages clip.0 clip.1 (turned' takes out mid guest old now room is there_now kept s new at frames frames' turn turned over) (over' takes out mid guest old now room is there_now kept s new at frames frames' turn turned over) same drops greeted count
 
     pub clip-kept : IsKept room (with_part guest (moved last old.layers messages old.glances) old)
-    clip-kept = took-keeps takes out mid guest old now room is there_now kept s new at frames frames' turn turned over mid (moved last old.layers messages old.glances) clipped
+    clip-kept = took-keeps takes out mid guest old now room is there_now kept s new at frames frames' turn turned over mid answers.Changed (moved last old.layers messages old.glances) clipped
 
     pub clip-took : (setup : Setup) (held : List ℕ) (st : DeskState) → PartStands setup guest held (part_of guest now) (frames guest) st
-        → TookSome takes out mid setup guest held (part_of guest now) (part_of guest (with_part guest (moved last old.layers messages old.glances) old)) (frames' guest) st
-    clip-took = took-now takes out mid guest old now room is there_now kept s new at frames frames' turn turned over mid (moved last old.layers messages old.glances) clipped
+        → TookTold takes out mid answers.Changed setup guest held (part_of guest now) (part_of guest (with_part guest (moved last old.layers messages old.glances) old)) (frames' guest) st
+    clip-took = took-now takes out mid guest old now room is there_now kept s new at frames frames' turn turned over mid answers.Changed (moved last old.layers messages old.glances) clipped
 
     pub clip-alone : ChangesPart guest now (with_part guest (moved last old.layers messages old.glances) old)
-    clip-alone = took-alone takes out mid guest old now room is there_now kept s new at frames frames' turn turned over mid (moved last old.layers messages old.glances) clipped
+    clip-alone = took-alone takes out mid guest old now room is there_now kept s new at frames frames' turn turned over mid answers.Changed (moved last old.layers messages old.glances) clipped
 
     pub clip-fewer : held_by (session_in guest (with_part guest (moved last old.layers messages old.glances) old)) < held_by (session_in guest now)
     clip-fewer =
@@ -216,23 +219,23 @@ module _ {O : Type 0} (takes : O → Post → O → Type 0) (out mid : O) (guest
 
 -- ---- the end of the session
 
-module _ {O : Type 0} (takes : O → Post → O → Type 0) (out mid : O) (guest : ℕ) (old now : DeskView) (room : ℕ) (is : old ≡ now) (there_now : guest < guests_of now) (kept : IsKept room old)
+module _ {O : Type 0} (takes : O → Post → O → Type 0) (out mid : O) (guest : ℕ) (old now : WindowsView) (room : ℕ) (is : old ≡ now) (there_now : guest < guests_of now) (kept : IsKept room old)
     (s new : SessionView) (at : s ≡ get_or old.sessions guest s) (frames frames' : ℕ → PortState) (cause : Cause) (last : O) (told : takes mid (Ended guest cause) last)
     (turned : Turned takes out mid (frames s.guest) (frames' s.guest) s new (turns.Ended cause)) (over : Over out mid (frames s.guest) (frames' s.guest) s new (turns.Ended cause)) where
-  over-took : (setup : Setup) (held : List ℕ) (st : DeskState) → PartStands setup guest held (part_of guest old) (frames guest) st → TookSome takes out last setup guest held (part_of guest old) (moved new (without_guest guest old.layers) old.messages old.glances) (frames' guest) st
+  over-took : (setup : Setup) (held : List ℕ) (st : DeskState) → PartStands setup guest held (part_of guest old) (frames guest) st → TookTold takes out last answers.Ended setup guest held (part_of guest old) (moved new (without_guest guest old.layers) old.messages old.glances) (frames' guest) st
   over-took setup held st stands = exit-ended takes out mid setup guest held (part_of guest old) new (frames guest) (frames' guest) st stands last cause (turned' takes out mid guest old now room is there_now kept s new at frames frames' (turns.Ended cause) turned over) (over' takes out mid guest old now room is there_now kept s new at frames frames' (turns.Ended cause) turned over) told
 
   pub ended-kept : IsKept room (with_part guest (moved new (without_guest guest old.layers) old.messages old.glances) old)
-  ended-kept = took-keeps takes out mid guest old now room is there_now kept s new at frames frames' (turns.Ended cause) turned over last (moved new (without_guest guest old.layers) old.messages old.glances) over-took
+  ended-kept = took-keeps takes out mid guest old now room is there_now kept s new at frames frames' (turns.Ended cause) turned over last answers.Ended (moved new (without_guest guest old.layers) old.messages old.glances) over-took
 
   pub ended-took : (setup : Setup) (held : List ℕ) (st : DeskState) → PartStands setup guest held (part_of guest now) (frames guest) st
-      → TookSome takes out last setup guest held (part_of guest now) (part_of guest (with_part guest (moved new (without_guest guest old.layers) old.messages old.glances) old)) (frames' guest) st
-  ended-took = took-now takes out mid guest old now room is there_now kept s new at frames frames' (turns.Ended cause) turned over last (moved new (without_guest guest old.layers) old.messages old.glances) over-took
+      → TookTold takes out last answers.Ended setup guest held (part_of guest now) (part_of guest (with_part guest (moved new (without_guest guest old.layers) old.messages old.glances) old)) (frames' guest) st
+  ended-took = took-now takes out mid guest old now room is there_now kept s new at frames frames' (turns.Ended cause) turned over last answers.Ended (moved new (without_guest guest old.layers) old.messages old.glances) over-took
 
   pub ended-alone : ChangesPart guest now (with_part guest (moved new (without_guest guest old.layers) old.messages old.glances) old)
-  ended-alone = took-alone takes out mid guest old now room is there_now kept s new at frames frames' (turns.Ended cause) turned over last (moved new (without_guest guest old.layers) old.messages old.glances) over-took
+  ended-alone = took-alone takes out mid guest old now room is there_now kept s new at frames frames' (turns.Ended cause) turned over last answers.Ended (moved new (without_guest guest old.layers) old.messages old.glances) over-took
 
-  pub ended-settled : Settled (session_in guest (with_part guest (moved new (without_guest guest old.layers) old.messages old.glances) old))
-  ended-settled =
-      settled-in guest old now is (there takes out mid guest old now room is there_now kept s new at frames frames' (turns.Ended cause) turned over) (moved new (without_guest guest old.layers) old.messages old.glances)
+  pub ended-drained : Drained (session_in guest (with_part guest (moved new (without_guest guest old.layers) old.messages old.glances) old))
+  ended-drained =
+      drained-in guest old now is (there takes out mid guest old now room is there_now kept s new at frames frames' (turns.Ended cause) turned over) (moved new (without_guest guest old.layers) old.messages old.glances)
       (λ still. absurd (exit-over takes out mid kept.setup guest (kept.held guest) (part_of guest old) new (frames guest) (frames' guest) (state takes out mid guest old now room is there_now kept s new at frames frames' (turns.Ended cause) turned over) (stood takes out mid guest old now room is there_now kept s new at frames frames' (turns.Ended cause) turned over) cause (turned' takes out mid guest old now room is there_now kept s new at frames frames' (turns.Ended cause) turned over) (over' takes out mid guest old now room is there_now kept s new at frames frames' (turns.Ended cause) turned over) still))

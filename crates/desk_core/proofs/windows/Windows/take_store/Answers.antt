@@ -1,7 +1,7 @@
 use Rattle.std.proofs.Common.{◌∙◌, ap, is_some, not, sym}
 use Rattle.desk_core.proofs.PieceLemmas.{not-some}
 use Rattle.desk_core.proofs.StoreLemmas.{stores-seen}
-use Rattle.desk_core.proofs.desk.Desk.take_store.Goals as goal
+use Rattle.desk_core.proofs.windows.Windows.take_store.Goals as goal
 
 pub returns-then-is_none-clause-took : goal.returns-then-is_none-clause-took
 returns-then-is_none-clause-took g c = λ setup state rests.

@@ -1,0 +1,103 @@
+// What the user does: it is routed to the windows, and the rows are told of the focus and of the hover.
+ghost use Rattle.std.specs.Prelude.{◌≡◌, ◌≤◌, IsTrue, false, length};
+ghost use Rattle.desk_laws.specs.declared.setup.Setup.{Setup};
+ghost use Rattle.desk_laws.specs.Events.{route};
+ghost use Rattle.desk_laws.specs.Scene.{Scene, and_then, ignored, perform};
+ghost use Rattle.desk_laws.specs.Settle.{IsSettled, settle as settled_after};
+ghost use Rattle.desk_laws.specs.Sizes.{sizes_of};
+ghost use Rattle.input_router.specs.Routes.{HasPixel, StaysOn};
+ghost use Rattle.desk_core.specs.Scenes.{IsScene};
+ghost use Rattle.desk_core.specs.EventSteps.{Performs, EventTakes};
+
+use crate::deliveries::Queue;
+use crate::grants::carry_out;
+use crate::places::SessionPlaces;
+use crate::settle::settle;
+use desk_laws::Item;
+use guest_session::Session;
+use gui_num::{Point, Rect, has};
+use input_router::Router;
+use io_ports::Outlet;
+use stacking::Stacking;
+
+// Whether the pixel of a Move is on a desktop of this width and height in pixels; `true` for all other
+// items.
+fn stays_on(item: &Item, width: u32, height: u32) -> bool
+    requires width { width ≤ 8192 }
+    requires height { height ≤ 8192 }
+    ensures pixel { IsTrue result → HasPixel item.now }
+    ensures on { IsTrue result → (setup : Setup) → setup.width ≡ width → setup.height ≡ height → StaysOn setup item.now }
+    ensures off { result ≡ false → (setup : Setup) (scene : Scene) → setup.width ≡ width → setup.height ≡ height → route setup item.now scene ≡ ignored scene }
+{
+    match *item {
+        Item::Move { x, y, .. } => {
+            let desktop = Rect {
+                x: 0,
+                y: 0,
+                w: width,
+                h: height,
+            };
+            has(desktop, Point { x, y })
+        }
+        _ => true,
+    }
+}
+
+// Routes an event, and carries out what it hands on to the windows. Answers whether focus and hover are
+// still those last told.
+fn perform_event<O: Outlet>(
+    router: &mut Router,
+    sessions: &mut [Session],
+    stack: &mut Stacking,
+    border: u32,
+    item: &Item,
+    out: &mut O,
+) -> bool
+    requires border { border ≤ 16 }
+    requires pixel { HasPixel item.now }
+    ensures rows { stack.new.rows ≡ stack.old.rows }
+    ensures count { length sessions.new ≡ length sessions.old }
+    ensures performs { (setup : Setup) (scene : Scene) → setup.border ≡ border → StaysOn setup item.now → IsScene sessions.old stack.old.layers router.old scene → IsSettled (sizes_of setup) scene
+        → Performs O.takes out.old out.new sessions.old sessions.new stack.new.layers router.new result (sizes_of setup) (perform (route setup item.now scene) scene) }
+{
+    let mut queue = Queue::new();
+    let places = SessionPlaces { sessions, border };
+    let routed = router.route(item, stack, &places, &mut queue);
+    carry_out(&queue, sessions, out);
+    routed.settled
+}
+
+/// Takes an event of the user, on a desktop of this width and height and with borders of so many pixels:
+/// it is routed to the windows, what it hands on to them is carried out, and the rows are told of the
+/// focus and of the hover where they are others than before. A Move to a pixel outside the desktop does
+/// nothing, and neither does an item that isn't an event of the user. No memory is taken.
+///
+/// What comes of it is what the definitions give for an event on the scene that these sessions, this
+/// stack and this router are those of, where focus and hover were told as they are there.
+pub(crate) fn take_event<O: Outlet>(
+    router: &mut Router,
+    sessions: &mut [Session],
+    stack: &mut Stacking,
+    border: u32,
+    width: u32,
+    height: u32,
+    item: &Item,
+    out: &mut O,
+)
+    requires border { border ≤ 16 }
+    requires width { width ≤ 8192 }
+    requires height { height ≤ 8192 }
+    ensures rows { stack.new.rows ≡ stack.old.rows }
+    ensures count { length sessions.new ≡ length sessions.old }
+    ensures takes { (setup : Setup) (scene : Scene) → setup.border ≡ border → setup.width ≡ width → setup.height ≡ height
+        → IsScene sessions.old stack.old.layers router.old scene → IsSettled (sizes_of setup) scene
+        → EventTakes O.takes out.old out.new sessions.old sessions.new stack.new.layers router.new (sizes_of setup) (and_then (perform (route setup item.now scene) scene) (settled_after (sizes_of setup))) }
+{
+    if !stays_on(item, width, height) {
+        return;
+    }
+    let settled = perform_event(router, sessions, stack, border, item, out);
+    if !settled {
+        settle(router, sessions, stack, border, out);
+    }
+}
