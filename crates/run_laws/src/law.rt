@@ -27,11 +27,11 @@ pub fn law_of_others()
     ensures { OthersStay }
 {}
 
-/// Does nothing. Its contract says of every state that a run of any items
-/// reaches: no two windows on the desktop have one guest and number, the lists of the layers have
-/// exactly the mapped windows, each once, a guest whose session has ended has no window, each mapped
-/// override window lies on the desktop with its border, and those of one guest have together at most
-/// the setup's percent of the desktop's area.
+/// Does nothing. Its contract says of every state that a run of any items reaches: no two windows on
+/// the desktop have one guest and number, the lists of the layers have exactly the mapped windows,
+/// each once, a guest whose session has ended has no window, each mapped override window lies on the
+/// desktop with its border, and those of one guest have together at most the setup's percent of the
+/// desktop's area.
 pub fn law_of_sound_states()
     ensures opening { OpeningIsSound }
     ensures step { StepsKeepSound }
