@@ -10,7 +10,7 @@ use Rattle.desk_laws.specs.Items.{FedItem}
 use Rattle.desk_laws.specs.Scene.{Reply, Ended, Picture, Summary}
 use Rattle.desk_laws.specs.State.{StepOutcome, opening}
 use Rattle.desk_laws.specs.Steps.{run}
-use Rattle.run_laws.specs.WorkedRows.{small_desktop, bytes, just, version, label, greeting}
+use Rattle.run_laws.specs.WorkedRows.{small_desktop, bytes, just, version, label, greeting, focused}
 
 -- a desktop with one page for each guest and so many tiles
 unfoldable pub one_page : ℕ → Setup
@@ -52,7 +52,7 @@ LoadedOnce = (framed 4096 three_reported).desk.counts.glances ≡ 3
 -- the picture shows what was read
 abbrev pub ContentsShown : Type 0
 ContentsShown = (framed 4096 (three_reported ++ just item.Snap ∷ [])).posts
-    ≡ greeting ++ Reply 0 (words (149 ∷ 1 ∷ 0 ∷ []))
+    ≡ greeting ++ focused 0 1 ++ Reply 0 (words (149 ∷ 1 ∷ 0 ∷ []))
     ∷ Picture 8 6 (replicate 9 0 ++ replicate 5 label ++ replicate 3 0
     ++ label ∷ 0x112233 ∷ 0xaabbcc ∷ 0xaabbcc ∷ label ∷ replicate 3 0
     ++ replicate 5 label ++ replicate 18 0) ∷ []
@@ -69,7 +69,7 @@ NothingLoadedOutside = (framed 4096 (three_reported ++ report 3 0 5 5 ∷ [])).d
 -- a column of 31 bits and more ends the session
 abbrev pub ReportOutOfRange : Type 0
 ReportOutOfRange = (framed 4096 (bytes window_of_three ∷ report (2 ^ 31) 0 3 1 ∷ [])).posts
-    ≡ greeting ++ Reply 0 (words (149 ∷ 1 ∷ 0 ∷ [])) ∷ Ended 0 (cause.BadRange 1 2147483648) ∷ []
+    ≡ greeting ++ focused 0 1 ++ Reply 0 (words (149 ∷ 1 ∷ 0 ∷ [])) ∷ Ended 0 (cause.BadRange 1 2147483648) ∷ []
 
 -- a window cut to one pixel and grown again has no contents but there
 abbrev pub CutAndGrown : Type 0

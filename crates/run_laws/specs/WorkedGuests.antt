@@ -12,7 +12,7 @@ use Rattle.desk_laws.specs.Items.{FedItem}
 use Rattle.desk_laws.specs.Scene.{Post, Reply, Ended, Picture}
 use Rattle.desk_laws.specs.State.{StepOutcome, opening}
 use Rattle.desk_laws.specs.Steps.{run}
-use Rattle.run_laws.specs.WorkedRows.{red, small_desktop, bytes, just, version}
+use Rattle.run_laws.specs.WorkedRows.{red, small_desktop, bytes, just, version, focus_out, focused}
 
 -- the guest `green`, whose label is green
 unfoldable pub green : GuestSetup
@@ -45,6 +45,10 @@ two_mapped = bytes (version ++ mapped_at 1 1 1 3 2 0) ∷ green_bytes (version +
 -- the answers to the version of one guest: the daemon's own, and the desktop's size with 24 bits and one KiB
 unfoldable pub greeting_to : ℕ → (width height : ℕ) → List Post
 greeting_to guest width height = Reply guest (7 ∷ 0 ∷ 1 ∷ 0 ∷ []) ∷ Reply guest (words (width ∷ height ∷ 24 ∷ 1 ∷ [])) ∷ []
+
+-- what red and green are told while window 1 of each is made: red's is the first to be mapped, and keeps the focus
+unfoldable pub both_greeted : (width height : ℕ) → List Post
+both_greeted width height = greeting_to 0 width height ++ focused 0 1 ++ greeting_to 1 width height
 
 -- the colours of the pictures below: background, red's label, green's label, and a content that was never read
 unfoldable pub none : ℕ
@@ -82,12 +86,12 @@ green_window =
 -- two windows of two guests, the later one above the other
 abbrev pub TwoWindows : Type 0
 TwoWindows = (outcome_of shared_desktop (two_mapped ++ just item.Snap ∷ [])).posts
-    ≡ greeting_to 0 10 6 ++ greeting_to 1 10 6 ++ Picture 10 6 both_windows ∷ []
+    ≡ both_greeted 10 6 ++ Picture 10 6 both_windows ∷ []
 
 -- red makes its window 1 again: red alone ends, and green's window 1 stays
 abbrev pub OneGuestEnds : Type 0
 OneGuestEnds = (outcome_of shared_desktop (two_mapped ++ bytes (spelling 1 (agent.Create 1 1 3 2 0 0)) ∷ just item.Snap ∷ [])).posts
-    ≡ greeting_to 0 10 6 ++ greeting_to 1 10 6 ++ Ended 0 (cause.WindowExists 1 0) ∷ Picture 10 6 green_window ∷ []
+    ≡ both_greeted 10 6 ++ Ended 0 (cause.WindowExists 1 0) ∷ focused 1 1 ++ Picture 10 6 green_window ∷ []
 
 -- which of red's windows are override windows, on 20 by 20 pixels of which they may take a quarter
 abbrev pub granted_of : List ℕ → List Bool
@@ -114,7 +118,7 @@ made_full = bytes (version ++ mapped_at 1 2 2 4 4 0 ++ spelling 1 (agent.Flags 1
 -- it gets the desktop less the border; nothing is told where the flag is cleared
 abbrev pub FullScreenTold : Type 0
 FullScreenTold = (outcome_of (desktop_of 20 10 90) made_full).posts
-    ≡ greeting_to 0 20 10 ++ Reply 0 (words (134 ∷ 1 ∷ 20 ∷ 1 ∷ 1 ∷ 18 ∷ 8 ∷ 0 ∷ [])) ∷ []
+    ≡ greeting_to 0 20 10 ++ focused 0 1 ++ Reply 0 (words (134 ∷ 1 ∷ 20 ∷ 1 ∷ 1 ∷ 18 ∷ 8 ∷ 0 ∷ [])) ∷ []
 
 -- and its place stays that
 abbrev pub FullScreenStays : Type 0
@@ -124,4 +128,4 @@ FullScreenStays = map (λ row. row.place) (outcome_of (desktop_of 20 10 90) made
 -- red minimizes its window: green's alone is shown
 abbrev pub MinimizedIsHidden : Type 0
 MinimizedIsHidden = (outcome_of shared_desktop (two_mapped ++ bytes (spelling 1 (agent.Flags 4 0)) ∷ just item.Snap ∷ [])).posts
-    ≡ greeting_to 0 10 6 ++ greeting_to 1 10 6 ++ Picture 10 6 green_window ∷ []
+    ≡ both_greeted 10 6 ++ focus_out 0 1 ∷ focused 1 1 ++ Picture 10 6 green_window ∷ []

@@ -54,6 +54,22 @@ posts items = (run small_desktop items (opening small_desktop)).posts
 unfoldable pub greeting : List Post
 greeting = Reply 0 (7 ∷ 0 ∷ 1 ∷ 0 ∷ []) ∷ Reply 0 (words (8 ∷ 6 ∷ 24 ∷ 1 ∷ [])) ∷ []
 
+-- a window of a guest gained the focus
+unfoldable pub focus_in : (guest window : ℕ) → Post
+focus_in guest window = Reply guest (words (128 ∷ window ∷ 12 ∷ 9 ∷ 0 ∷ 3 ∷ []))
+
+-- a window of a guest lost the focus
+unfoldable pub focus_out : (guest window : ℕ) → Post
+focus_out guest window = Reply guest (words (128 ∷ window ∷ 12 ∷ 10 ∷ 0 ∷ 3 ∷ []))
+
+-- a guest is told of a keyboard on which no key is down
+unfoldable pub keyboard : (guest : ℕ) → Post
+keyboard guest = Reply guest (words (142 ∷ 0 ∷ 32 ∷ []) ++ replicate 32 0)
+
+-- what a guest is told where a window of it gains the focus
+unfoldable pub focused : (guest window : ℕ) → List Post
+focused guest window = focus_in guest window ∷ keyboard guest ∷ []
+
 -- the colours of the rows below: background, red's label, and a content that was never read
 unfoldable pub background : ℕ
 background = 0
@@ -82,14 +98,14 @@ EmptyDesktop = posts (just item.Snap ∷ just item.End ∷ [])
 -- one window
 abbrev pub OneWindow : Type 0
 OneWindow = posts (bytes (window_at 2 2) ∷ just item.Snap ∷ just item.End ∷ [])
-    ≡ greeting ++ Picture 8 6 ring ∷ Summary (record { items = 3; messages = 2; glances = 0 }) ∷ []
+    ≡ greeting ++ focused 0 1 ++ Picture 8 6 ring ∷ Summary (record { items = 3; messages = 2; glances = 0 }) ∷ []
 
 -- a window off the corner, at (-1, -1): one pixel of content at (0, 0), three of the ring around it
 abbrev pub WindowOffTheCorner : Type 0
 WindowOffTheCorner = posts (bytes (window_at (2 ^ 32 - 1) (2 ^ 32 - 1)) ∷ just item.Snap ∷ [])
-    ≡ greeting ++ Picture 8 6 ((blank ∷ label ∷ replicate 6 0) ++ (label ∷ label ∷ replicate 6 0) ++ replicate 32 0) ∷ []
+    ≡ greeting ++ focused 0 1 ++ Picture 8 6 ((blank ∷ label ∷ replicate 6 0) ++ (label ∷ label ∷ replicate 6 0) ++ replicate 32 0) ∷ []
 
 -- a window created twice: the second CREATE ends the session
 abbrev pub WindowCreatedTwice : Type 0
 WindowCreatedTwice = posts (bytes (window_at 2 2 ++ spelling 1 (agent.Create 2 2 2 2 0 0)) ∷ just item.Snap ∷ [])
-    ≡ greeting ++ Ended 0 (cause.WindowExists 1 0) ∷ Picture 8 6 (replicate 48 0) ∷ []
+    ≡ greeting ++ focused 0 1 ++ Ended 0 (cause.WindowExists 1 0) ∷ Picture 8 6 (replicate 48 0) ∷ []

@@ -11,12 +11,12 @@ use Rattle.desk_laws.specs.Rows.{span}
 use Rattle.desk_laws.specs.Scene.{Post, Reply, Ended, Picture, Summary}
 use Rattle.desk_laws.specs.State.{opening}
 use Rattle.desk_laws.specs.Steps.{run}
-use Rattle.run_laws.specs.WorkedRows.{small_desktop, bytes, just, version, window_at, posts, greeting, ring}
+use Rattle.run_laws.specs.WorkedRows.{small_desktop, bytes, just, version, window_at, posts, greeting, focused, ring}
 
 -- one byte at a time: the posts of the one window, but each byte is an item
 abbrev pub OneByteAtATime : Type 0
 OneByteAtATime = posts (map (λ byte. bytes (byte ∷ [])) (window_at 2 2) ++ just item.Snap ∷ just item.End ∷ [])
-    ≡ greeting ++ Picture 8 6 ring ∷ Summary (record { items = 62; messages = 2; glances = 0 }) ∷ []
+    ≡ greeting ++ focused 0 1 ++ Picture 8 6 ring ∷ Summary (record { items = 62; messages = 2; glances = 0 }) ∷ []
 
 -- a width of 31 bits and more ends the session
 abbrev pub WidthOutOfRange : Type 0
@@ -26,7 +26,7 @@ WidthOutOfRange = posts (bytes (version ++ spelling 1 (agent.Create 0 0 (2 ^ 31)
 -- a window is 16384 pixels wide at most, and is told so
 abbrev pub WidthBroughtIntoRange : Type 0
 WidthBroughtIntoRange = posts (bytes (window_at 2 2 ++ spelling 1 (agent.Configure 0 0 20000 10 0)) ∷ [])
-    ≡ greeting ++ Reply 0 (words (134 ∷ 1 ∷ 20 ∷ 0 ∷ 0 ∷ 16384 ∷ 10 ∷ 0 ∷ [])) ∷ []
+    ≡ greeting ++ focused 0 1 ++ Reply 0 (words (134 ∷ 1 ∷ 20 ∷ 0 ∷ 0 ∷ 16384 ∷ 10 ∷ 0 ∷ [])) ∷ []
 
 -- the desktop with four pages for each guest
 unfoldable pub four_pages : Setup
