@@ -5,3 +5,4 @@ pub mod WorkedFrames
 pub mod WorkedGuests
 pub mod WorkedMessages
 pub mod WorkedCauses
+pub mod WorkedInput

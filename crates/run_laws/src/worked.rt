@@ -5,6 +5,7 @@ ghost use Rattle.run_laws.specs.WorkedFrames.{FrameChangesBetweenLoads, LoadedOn
 ghost use Rattle.run_laws.specs.WorkedGuests.{TwoWindows, OneGuestEnds, OverrideAreaLimit, OverrideAreasTogether, OverrideMovedInside, FullScreenTold, FullScreenStays, MinimizedIsHidden};
 ghost use Rattle.run_laws.specs.WorkedMessages.{Unmapped, UnmappedTwice, NamesKept, Destroyed, UnknownNames, TitleCut, TitleWhole, ClassAndName, HintsKept, Docked, CursorKept, SetAfterUnset, ThreeFlags, DumpKept, BroughtIntoRange};
 ghost use Rattle.run_laws.specs.WorkedCauses.{LinkLost, TypeNotTaken, LengthOfDestroy, LengthOfDump, OneReferenceMore, NoSuchWindow, RangeBeforeWindow, ClipboardOfNoWindow, NotCreated, DumpOutOfRange, FivePagesOfFour, ReferenceBeforeBudget, VersionTold};
+ghost use Rattle.run_laws.specs.WorkedInput.{ClickRaises, GrabAcrossWindows, ReleaseAfterFocusChange, NextWindow, Restored, AskedToClose, Resized, OutsideTheDesktop, ChordsAreKept};
 
 /// The definitions give these hand-computed runs. It does nothing.
 pub fn worked_rows()
@@ -88,4 +89,18 @@ pub fn worked_causes()
     ensures five_pages_of_four { FivePagesOfFour }
     ensures reference_before_budget { ReferenceBeforeBudget }
     ensures version_told { VersionTold }
+{}
+
+/// The definitions give these hand-computed runs of what the user does with the pointer, the keys and
+/// the window manager's commands. It does nothing.
+pub fn worked_input()
+    ensures click_raises { ClickRaises }
+    ensures grab_across_windows { GrabAcrossWindows }
+    ensures release_after_focus_change { ReleaseAfterFocusChange }
+    ensures next_window { NextWindow }
+    ensures restored { Restored }
+    ensures asked_to_close { AskedToClose }
+    ensures resized { Resized }
+    ensures outside_the_desktop { OutsideTheDesktop }
+    ensures chords_are_kept { ChordsAreKept }
 {}
