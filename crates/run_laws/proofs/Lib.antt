@@ -1,4 +1,7 @@
 pub mod EndedSessions
+pub mod GrantLemmas
+pub mod GrantedEvents
+pub mod GrantedSteps
 pub mod OtherGuests
 pub mod PieceLemmas
 pub mod SoundRuns

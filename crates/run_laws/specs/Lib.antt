@@ -1,4 +1,5 @@
 pub mod Pieces
+pub mod GrantedContent
 pub mod WorkedRows
 pub mod WorkedStreams
 pub mod WorkedFrames

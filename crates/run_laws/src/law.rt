@@ -1,7 +1,8 @@
-// What is known of all runs.
+// What is known of all steps and runs.
 ghost use Rattle.desk_laws.specs.Endings.{EndsLeaveNothing, EndedDoesNothing};
 ghost use Rattle.desk_laws.specs.Others.{OthersStay};
 ghost use Rattle.desk_laws.specs.Sound.{OpeningIsSound, StepsKeepSound, RunsAreSound};
+ghost use Rattle.run_laws.specs.GrantedContent.{GrantsCarryNoMore};
 ghost use Rattle.run_laws.specs.Pieces.{PiecesJoin};
 
 /// Does nothing. Its contract says that it doesn't matter in which pieces a guest's bytes come: two
@@ -36,4 +37,16 @@ pub fn law_of_sound_states()
     ensures opening { OpeningIsSound }
     ensures step { StepsKeepSound }
     ensures run { RunsAreSound }
+{}
+
+/// Does nothing. Its contract says of each input that an item grants a guest, whatever else is on the
+/// desktop: a window that it names is one of this guest and is there, and the input carries nothing
+/// but what the user did and what the window may know of itself. A key has the item's code, direction
+/// and state, and goes to the focus, as the request to close does. A button and a motion have what the
+/// item says and the pointer's pixel from the corner of the window's place; a crossing has this pixel
+/// and whether the window has the focus. A new place has the two numbers of the item, in range, and
+/// the window's own other two. Pasted bytes are those of the clipboard, and come at a paste chord
+/// alone.
+pub fn law_granted()
+    ensures { GrantsCarryNoMore }
 {}
