@@ -3,11 +3,10 @@ use Rattle.std.proofs.Common.{◌≡◌, ℕ, zero, suc, ◌+◌, ◌-◌, ◌<�
 use Rattle.std.proofs.Math.Seq.{take-append_seam}
 use Rattle.std.proofs.lemmas.List.{take-append-drop, drop-drop}
 use Rattle.std.proofs.lemmas.Bool.Decides.{nat_tests}
-use Rattle.std.specs.Prelude.{slice_index, nat_lt, not, if◌then◌else◌, IfSome}
+use Rattle.std.specs.Prelude.{slice_index, nat_lt, if◌then◌else◌, IfSome}
 use Rattle.io_ports.specs.declared.feed.RecordKind.{RecordKind}
 use Rattle.io_ports.specs.declared.feed.RecordKind.TheVariants as kinds
 use Rattle.desk_laws.specs.declared.item.Item.{Item}
-use Rattle.desk_laws.specs.Stage.{takes_item}
 use Rattle.desk_laws.specs.Items.{FedItem}
 use Rattle.io_ports.specs.Content.{IsPrefix}
 use Rattle.gui_wire.proofs.WordLemmas.{AreBytes, AreBytes-take}
@@ -45,25 +44,18 @@ fields_whole guests pages n (kind ∷ fields) tail is some =
     ∙ ap (λ (b : Bool). if b then Err kinds.Short else with_piece (1 + n) (drop (1 + n) all) (item_read guests pages (take (1 + n) all))) there
     ∙ (λ i. with_piece (1 + n) (back_is (1 + n) (kind ∷ fields) tail is i) (item_read guests pages (front_is (1 + n) (kind ∷ fields) tail is i)))
 
--- an item that isn't there yet
-pub piece_cut : (before : ℕ) (behind : List ℕ) (item : Item) (len : ℕ) → takes_item item ≡ false → with_piece before behind (Some (item, len)) ≡ Err kinds.Kind
-piece_cut before behind item len is =
-    ap (λ (b : Bool). if not b then Err kinds.Kind else if nat_lt (length behind) len then Err kinds.Short else Ok (record { item = item; piece = take len behind }, before + len)) is
-
 -- too few bytes of the piece
-pub piece_short : (before : ℕ) (behind : List ℕ) (item : Item) (len : ℕ) → takes_item item ≡ true → length behind < len → with_piece before behind (Some (item, len)) ≡ Err kinds.Short
-piece_short before behind item len is short =
+pub piece_short : (before : ℕ) (behind : List ℕ) (item : Item) (len : ℕ) → length behind < len → with_piece before behind (Some (item, len)) ≡ Err kinds.Short
+piece_short before behind item len short =
     let few : nat_lt (length behind) len ≡ true = grind (arith, nat_tests) in
-    ap (λ (b : Bool). if not b then Err kinds.Kind else if nat_lt (length behind) len then Err kinds.Short else Ok (record { item = item; piece = take len behind }, before + len)) is
-    ∙ ap (λ (b : Bool). if b then Err kinds.Short else Ok (record { item = item; piece = take len behind }, before + len)) few
+    ap (λ (b : Bool). if b then Err kinds.Short else Ok (record { item = item; piece = take len behind }, before + len)) few
 
 -- the whole piece
-pub piece_whole : (before : ℕ) (piece tail : List ℕ) (item : Item) → takes_item item ≡ true
+pub piece_whole : (before : ℕ) (piece tail : List ℕ) (item : Item)
     → with_piece before (piece ++ tail) (Some (item, length piece)) ≡ Ok (record { item = item; piece = piece }, before + length piece)
-piece_whole before piece tail item is =
+piece_whole before piece tail item =
     let there : nat_lt (length (piece ++ tail)) (length piece) ≡ false = grind (arith, nat_tests, seam piece tail) in
-    ap (λ (b : Bool). if not b then Err kinds.Kind else if nat_lt (length (piece ++ tail)) (length piece) then Err kinds.Short else Ok (record { item = item; piece = take (length piece) (piece ++ tail) }, before + length piece)) is
-    ∙ ap (λ (b : Bool). if b then Err kinds.Short else Ok (record { item = item; piece = take (length piece) (piece ++ tail) }, before + length piece)) there
+    ap (λ (b : Bool). if b then Err kinds.Short else Ok (record { item = item; piece = take (length piece) (piece ++ tail) }, before + length piece)) there
     ∙ ap (λ (l : List ℕ). Ok (record { item = item; piece = l }, before + length piece)) (take-append_seam piece tail)
 
 -- a kind with a number of fields stands in a byte
@@ -72,9 +64,9 @@ kind_there [] n is = absurd (cc)
 kind_there (x ∷ xs) n is = omega arith
 
 -- an item that was spelled with its piece is found, whatever follows it
-pub item_found : (guests pages : ℕ) → pages < 2 ^ 32 → (given : FedItem) (tail : List ℕ) → takes_item given.item ≡ true → FitsRecord guests pages given.item (length given.piece)
+pub item_found : (guests pages : ℕ) → pages < 2 ^ 32 → (given : FedItem) (tail : List ℕ) → FitsRecord guests pages given.item (length given.piece)
     → item_at guests pages (fed_spelling given ++ tail) ≡ Ok (given, length (fed_spelling given))
-item_found guests pages few given tail there fits =
+item_found guests pages few given tail fits =
     let len = length given.piece in
     let front = item_spelling given.item len in
     let n = length front - 1 in
@@ -85,7 +77,7 @@ item_found guests pages few given tail there fits =
     ap (item_at guests pages) (append_assoc front given.piece tail)
     ∙ fields_whole guests pages n front (given.piece ++ tail) (omega arith) fields
     ∙ ap (with_piece (1 + n) (given.piece ++ tail)) read
-    ∙ piece_whole (1 + n) given.piece tail given.item there
+    ∙ piece_whole (1 + n) given.piece tail given.item
     ∙ ap (λ (k : ℕ). Ok (given, k)) size
 
 -- ---- the other way
@@ -99,14 +91,9 @@ else_was false e r x is = (refl, is)
 record PieceParts (before : ℕ) (behind : List ℕ) (r : Option (Item × ℕ)) (given : FedItem) (size : ℕ) : Type 0 where
   len : ℕ
   read : r ≡ Some (given.item, len)
-  there : takes_item given.item ≡ true
   enough : len ≤ length behind
   piece : given.piece ≡ take len behind
   total : size ≡ before + len
-
-yes : (b : Bool) → not b ≡ false → b ≡ true
-yes true is = refl
-yes false is = absurd (cc)
 
 long_enough : (a b : ℕ) → nat_lt a b ≡ false → b ≤ a
 long_enough a b is = grind (arith, nat_tests, is)
@@ -114,15 +101,13 @@ long_enough a b is = grind (arith, nat_tests, is)
 piece_parts : (before : ℕ) (behind : List ℕ) (r : Option (Item × ℕ)) (given : FedItem) (size : ℕ) → with_piece before behind r ≡ Ok (given, size) → PieceParts before behind r given size
 piece_parts before behind None given size is = absurd (cc)
 piece_parts before behind (Some found) given size is =
-    let first = else_was (not (takes_item found.0)) kinds.Kind _ (given, size) is in
-    let second = else_was (nat_lt (length behind) found.1) kinds.Short _ (given, size) first.1 in
+    let enough = else_was (nat_lt (length behind) found.1) kinds.Short _ (given, size) is in
     let same : ◌≡◌ {A = FedItem × ℕ} (record { item = found.0; piece = take found.1 behind }, before + found.1) (given, size) = cc in
     let item : found.0 ≡ given.item = ap (λ (p : FedItem × ℕ). p.0.item) same in
     record {
       len = found.1;
       read = λ i. Some (item i, found.1);
-      there = ap takes_item (sym item) ∙ yes (takes_item found.0) first.0;
-      enough = long_enough (length behind) found.1 second.0;
+      enough = long_enough (length behind) found.1 enough.0;
       piece = ap (λ (p : FedItem × ℕ). p.0.piece) (sym same);
       total = ap (λ (p : FedItem × ℕ). p.1) (sym same);
     }
@@ -134,7 +119,6 @@ pub record ItemParts (guests pages : ℕ) (bytes : List ℕ) (given : FedItem) (
   pub kind : fields_len (slice_index bytes 0) ≡ Some n
   pub fields : 1 + n ≤ length bytes
   pub read : item_read guests pages (take (1 + n) bytes) ≡ Some (given.item, len)
-  pub there : takes_item given.item ≡ true
   pub enough : len ≤ length (drop (1 + n) bytes)
   pub piece : given.piece ≡ take len (drop (1 + n) bytes)
   pub total : size ≡ 1 + n + len
@@ -150,7 +134,6 @@ fields_parts guests pages bytes (Some n) given size is found =
       kind = is;
       fields = long_enough (length bytes) (1 + n) first.0;
       read = parts.read;
-      there = parts.there;
       enough = parts.enough;
       piece = parts.piece;
       total = parts.total;
@@ -188,7 +171,6 @@ front_was n front item len size kind widths begins =
 
 -- an item that is found was spelled with its piece, and fits the record
 pub record ItemWas (guests pages : ℕ) (bytes : List ℕ) (given : FedItem) (size : ℕ) : Type 0 where
-  pub there : takes_item given.item ≡ true
   pub fits : FitsRecord guests pages given.item (length given.piece)
   pub total : size ≡ length (fed_spelling given)
   pub spelled : bytes ≡ fed_spelling given ++ drop size bytes
@@ -209,7 +191,6 @@ item_was guests pages bytes given size h is =
     let front_is_it : front ≡ item_spelling given.item len = front_was n front given.item len long kind spelled.fits.widths spelled.spelled in
     let whole : front ++ given.piece ≡ fed_spelling given = λ i. (front_is_it ∙ ap (item_spelling given.item) (sym size_of)) i ++ given.piece in
     record {
-      there = parts.there;
       fits = subst (FitsRecord guests pages given.item) (sym size_of) spelled.fits;
       total = parts.total ∙ omega (arith, long, size_of, ap length whole, length-append front given.piece);
       spelled =

@@ -99,7 +99,7 @@ items_go guests pages few at small (g ∷ given) tail fit =
     let after = counted (at + size) in
     let place : counted (after + length rest) ≡ counted (at + length (first ++ rest)) = counted_on at size (length rest) ∙ ap (λ (n : ℕ). counted (at + n)) (sym (length-append first rest)) in
     ap (items_from guests pages at) (append_assoc first rest tail)
-    ∙ from_item guests pages at size (first ++ (rest ++ tail)) g (item_found guests pages few g (rest ++ tail) one.there one.fits)
+    ∙ from_item guests pages at size (first ++ (rest ++ tail)) g (item_found guests pages few g (rest ++ tail) one.fits)
     ∙ ap (λ (l : List ℕ). item_and g (items_from guests pages after l)) (drop-append_seam first (rest ++ tail))
     ∙ item_more g (items_from guests pages after (rest ++ tail)) one.goes_on
     ∙ ap (with_front (g ∷ [])) (items_go guests pages few after (counted_twice (at + size)) given tail others)
@@ -123,7 +123,7 @@ items_are_read setup given tail right fit =
 
 -- nothing behind End is looked at
 end_is_last : (guests pages : ℕ) → pages < 2 ^ 32 → (at : ℕ) (tail : List ℕ) → items_from guests pages at (10 ∷ tail) ≡ nothing_but Ends
-end_is_last guests pages few at tail = from_item guests pages at 1 (10 ∷ tail) (alone items.End) (item_found guests pages few (alone items.End) tail refl (record { widths = tt; range = refl }))
+end_is_last guests pages few at tail = from_item guests pages at 1 (10 ∷ tail) (alone items.End) (item_found guests pages few (alone items.End) tail (record { widths = tt; range = refl }))
 
 pub whole_records_are_read : WholeRecordsAreRead
 whole_records_are_read setup given tail right fit =
@@ -153,7 +153,7 @@ found_fits guests pages size bytes given is =
     let behind = drop (1 + parts.n) bytes in
     let len : length given.piece ≡ parts.len = ap length parts.piece ∙ omega (arith, parts.enough, length-take parts.len behind) in
     let range : FitsItem guests pages given.item parts.len = subst (λ (r : Option (Item × ℕ)). IfSome r (RangesHold guests pages)) parts.read (item_ranged guests pages (take (1 + parts.n) bytes)) in
-    record { there = parts.there; in_range = subst (FitsItem guests pages given.item) (sym len) range }
+    subst (FitsItem guests pages given.item) (sym len) range
 
 -- so of all items of a record
 abbrev AllFit : ℕ → ℕ → List FedItem → Type 0
@@ -228,7 +228,7 @@ and_were guests pages at size bytes given true others is one after =
       behind = tt;
     }
 and_were guests pages at size bytes given false others is one after = record {
-  are_items = All-cons (CanStand guests pages) given others.each (record { there = one.there; fits = one.fits; goes_on = is }) after.are_items;
+  are_items = All-cons (CanStand guests pages) given others.each (record { fits = one.fits; goes_on = is }) after.are_items;
   rest = after.rest;
   spelled = one.spelled ∙ ap (λ (l : List ℕ). fed_spelling given ++ l) after.spelled ∙ sym (append_assoc (fed_spelling given) (items_spelling (whole others)) after.rest);
   behind = place_on guests pages at size others.ending (fed_spelling given) (items_spelling others.each) after.rest one.total after.behind;

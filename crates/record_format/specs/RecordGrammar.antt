@@ -1,6 +1,6 @@
 -- What a record says: a setup, and the items behind it up to End or a fault. The format is this
 -- project's own.
-use Rattle.std.specs.Prelude.{ℕ, zero, suc, ◌+◌, List, [], ◌∷◌, ◌++◌, length, take, drop, nat_lt, not, if◌then◌else◌, Bool, true, false, Option, None, Some, Result, Ok, Err}
+use Rattle.std.specs.Prelude.{ℕ, zero, suc, ◌+◌, List, [], ◌∷◌, ◌++◌, length, take, drop, nat_lt, if◌then◌else◌, Bool, true, false, Option, None, Some, Result, Ok, Err}
 use Rattle.io_ports.specs.declared.feed.RecordFault.{RecordFault}
 use Rattle.io_ports.specs.declared.feed.RecordKind.{RecordKind}
 use Rattle.io_ports.specs.declared.feed.RecordKind.TheVariants as kinds
@@ -9,7 +9,6 @@ use Rattle.desk_laws.specs.declared.item.Item.{Item}
 use Rattle.desk_laws.specs.declared.item.Item.TheVariants as items
 use Rattle.desk_laws.specs.Frames.{counted}
 use Rattle.desk_laws.specs.Items.{FedItem}
-use Rattle.desk_laws.specs.Stage.{takes_item}
 use Rattle.record_format.specs.Config.{Wrong, fault, config_of, config_len}
 use Rattle.record_format.specs.ItemFields.{fields_len, item_read}
 
@@ -32,8 +31,7 @@ alone item = record { item = item; piece = [] }
 abbrev pub with_piece : ℕ → List ℕ → Option (Item × ℕ) → Result (FedItem × ℕ) RecordKind
 with_piece before behind None = Err kinds.Range
 with_piece before behind (Some found) =
-    if not (takes_item found.0) then Err kinds.Kind
-    else if nat_lt (length behind) found.1 then Err kinds.Short
+    if nat_lt (length behind) found.1 then Err kinds.Short
     else Ok (record { item = found.0; piece = take found.1 behind }, before + found.1)
 
 -- an item whose kind byte has so many bytes of fields behind it

@@ -1,12 +1,11 @@
 -- A record is read as it was spelled, and was spelled as it is read.
-use Rattle.std.specs.Prelude.{◌≡◌, ℕ, ◌+◌, ◌<◌, true, false, List, [], ◌∷◌, ◌++◌, length, None, Err}
+use Rattle.std.specs.Prelude.{◌≡◌, ℕ, ◌+◌, ◌<◌, false, List, [], ◌∷◌, ◌++◌, length, None, Err}
 use Rattle.std.specs.List.{All}
 use Rattle.io_ports.specs.declared.feed.RecordKind.TheVariants as kinds
 use Rattle.desk_laws.specs.declared.setup.Setup.{Setup}
 use Rattle.desk_laws.specs.declared.item.Item.TheVariants as items
 use Rattle.desk_laws.specs.Rules.{first_broken}
 use Rattle.desk_laws.specs.Frames.{counted}
-use Rattle.desk_laws.specs.Stage.{takes_item}
 use Rattle.desk_laws.specs.Items.{FedItem, FitsItem}
 use Rattle.record_format.specs.Config.{fault, config_len, config_spelling}
 use Rattle.record_format.specs.ItemSpellings.{items_spelling, FitsRecord}
@@ -14,7 +13,6 @@ use Rattle.record_format.specs.RecordGrammar.{Ending, Ends, Faulty, Items, alone
 
 -- an item that can stand before End in a record of so many guests and pages
 pub record CanStand (guests pages : ℕ) (given : FedItem) : Type 0 where
-  pub there : takes_item given.item ≡ true
   pub fits : FitsRecord guests pages given.item (length given.piece)
   pub goes_on : is_end given.item ≡ false
 
