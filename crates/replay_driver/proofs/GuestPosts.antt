@@ -1,65 +1,23 @@
 -- Which posts of a step are for guests: all, but for a Picture at Snap and the Summary at End.
 use Rattle.std.proofs.Common.{◌≡◌, ℕ, List, [], ◌∷◌, ◌++◌, Option, Some, None, Bool, true, false, refl, sym, ◌∙◌, ap}
-use Rattle.std.proofs.lemmas.List.Elements.{filter-append}
 use Rattle.desk_laws.specs.declared.setup.Setup.{Setup}
 use Rattle.desk_laws.specs.declared.cause.Cause.{Cause}
 use Rattle.desk_laws.specs.declared.cause.Cause.TheVariants.{StreamEnded, LinkFailed}
-use Rattle.desk_laws.specs.declared.input.GIn.{GIn}
 use Rattle.desk_laws.specs.declared.item.Item.{Item}
 use Rattle.desk_laws.specs.declared.item.Item.TheVariants as items
-use Rattle.desk_laws.specs.declared.row_id.RowId.{RowId}
-use Rattle.desk_laws.specs.Sizes.{Sizes, sizes_of}
-use Rattle.desk_laws.specs.Clipboard.{Content}
+use Rattle.desk_laws.specs.Sizes.{sizes_of}
 use Rattle.desk_laws.specs.Stream.{StreamUnit, cut}
 use Rattle.desk_laws.specs.Effects.{Effect}
-use Rattle.desk_laws.specs.Grants.{granted}
-use Rattle.desk_laws.specs.Scene.{Scene, Post, Reply, Ended, Picture, Summary, Input, Delivery, Grants, Asks, Pastes, replies, grant_where, grant, pastes, deliver, deliver_all, perform, scene_of_input, Took, Closing, Losing}
+use Rattle.desk_laws.specs.Scene.{Post, Reply, Ended, Picture, Summary, Input, replies, perform, Took, Closing, Losing}
 use Rattle.desk_laws.specs.State.{DeskState, session_of, count_item}
 use Rattle.desk_laws.specs.Settle.{settle}
 use Rattle.desk_laws.specs.Events.{route}
 use Rattle.desk_laws.specs.Steps.{ends, end_told, unit_told, unit_done, unit_effect, unit_of_open, take_unit, take_units, with_rest, bytes_of_open, take_bytes, end_of_open, store_of_open, event, step}
-use Rattle.desk_core.specs.DeskPosts.{is_for_guest, guest_posts}
+use Rattle.desk_core.specs.DeskPosts.{guest_posts}
+use Rattle.desk_core.proofs.GuestPosts.{AreForGuests, for_guests-append, for_guests-perform, for_guests-settle}
+use Rattle.desk_core.proofs.PostLemmas.{guest-replies}
 use Rattle.record_format.specs.OutputGrammar.{post_bytes, posts_bytes}
 use Rattle.record_format.specs.RecordGrammar.{is_end}
-
--- all of these posts are for guests
-abbrev pub AreForGuests : List Post → Type 0
-AreForGuests posts = guest_posts posts ≡ posts
-
-pub for_guests-append : (xs ys : List Post) → AreForGuests xs → AreForGuests ys → AreForGuests (xs ++ ys)
-for_guests-append xs ys first second =
-    filter-append is_for_guest xs ys ∙ ap (λ (l : List Post). l ++ guest_posts ys) first ∙ ap (λ (l : List Post). xs ++ l) second
-
-pub for_guests-replies : (guest : ℕ) (answers : List (List ℕ)) → AreForGuests (replies guest answers)
-for_guests-replies guest [] = refl
-for_guests-replies guest (a ∷ answers) = ap (λ (l : List Post). Reply guest a ∷ l) (for_guests-replies guest answers)
-
--- ---- the scene
-
-for_guests-grant_where : (there : Bool) (id : RowId) (input : GIn) (paste : List ℕ) (scene : Scene) → AreForGuests (grant_where there id input paste scene).posts
-for_guests-grant_where false id input paste scene = refl
-for_guests-grant_where true id input paste scene = for_guests-replies id.guest (granted id.guest scene.rows input paste).answers
-
-for_guests-grant : (id : RowId) (input : GIn) (paste : List ℕ) (scene : Scene) → AreForGuests (grant id input paste scene).posts
-for_guests-grant id input paste scene = for_guests-grant_where _ id input paste scene
-
-for_guests-pastes : (id : RowId) (content : Option Content) (scene : Scene) → AreForGuests (pastes id content scene).posts
-for_guests-pastes id None scene = refl
-for_guests-pastes id (Some content) scene = for_guests-grant id _ content.bytes _
-
-for_guests-deliver : (d : Delivery) (scene : Scene) → AreForGuests (deliver d scene).posts
-for_guests-deliver (Grants id input) scene = for_guests-grant id input [] scene
-for_guests-deliver (Asks id) scene = for_guests-grant id _ [] _
-for_guests-deliver (Pastes id) scene = for_guests-pastes id scene.clip.content scene
-
-for_guests-deliver_all : (deliveries : List Delivery) (scene : Scene) → AreForGuests (deliver_all deliveries scene).posts
-for_guests-deliver_all [] scene = refl
-for_guests-deliver_all (d ∷ deliveries) scene =
-    for_guests-append (deliver d scene).posts (deliver_all deliveries (deliver d scene).scene).posts
-    (for_guests-deliver d scene) (for_guests-deliver_all deliveries (deliver d scene).scene)
-
-for_guests-settle : (sizes : Sizes) (scene : Scene) → AreForGuests (settle sizes scene).posts
-for_guests-settle sizes scene = refl
 
 -- ---- the desk
 
@@ -71,7 +29,7 @@ for_guests-ends setup guest input cause desk =
 for_guests-unit_done : (setup : Setup) (guest : ℕ) (unit : StreamUnit) (e : Effect) (cause : Option Cause) (desk : DeskState) → AreForGuests (unit_done setup guest unit e cause desk).posts
 for_guests-unit_done setup guest unit e None desk =
     for_guests-append (replies guest e.answers) (settle (sizes_of setup) (unit_told guest unit e desk.scene).scene).posts
-    (for_guests-replies guest e.answers) (for_guests-settle (sizes_of setup) (unit_told guest unit e desk.scene).scene)
+    (guest-replies guest e.answers) (for_guests-settle (sizes_of setup) (unit_told guest unit e desk.scene).scene)
 for_guests-unit_done setup guest unit e (Some cause) desk = for_guests-ends setup guest (Took unit) cause desk
 
 for_guests-unit_of_open : (setup : Setup) (guest : ℕ) (unit : StreamUnit) (ended : Option Cause) (desk : DeskState) → AreForGuests (unit_of_open setup guest unit ended desk).posts
@@ -106,7 +64,7 @@ for_guests-event : (setup : Setup) (item : Item) (desk : DeskState) → AreForGu
 for_guests-event setup item desk =
     let done = perform (route setup item desk.scene) desk.scene in
     for_guests-append done.posts (settle (sizes_of setup) done.scene).posts
-    (for_guests-deliver_all (route setup item desk.scene).deliveries (scene_of_input (route setup item desk.scene) desk.scene)) (for_guests-settle (sizes_of setup) done.scene)
+    (for_guests-perform (route setup item desk.scene) desk.scene) (for_guests-settle (sizes_of setup) done.scene)
 
 -- a step that is neither Snap nor End
 abbrev pub is_quiet : Item → Bool

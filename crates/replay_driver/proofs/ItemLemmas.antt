@@ -1,5 +1,5 @@
 -- How one item is read, part by part.
-use Rattle.std.proofs.Common.{◌≡◌, ℕ, zero, suc, ◌+◌, ◌<◌, ◌≤◌, ◌^◌, List, [], ◌∷◌, ◌++◌, length, take, Option, Some, Result, Ok, Err, true, refl, sym, ◌∙◌, ap, subst, arith, length-append, length-take}
+use Rattle.std.proofs.Common.{◌≡◌, ℕ, zero, suc, ◌+◌, ◌<◌, ◌≤◌, ◌^◌, List, [], ◌∷◌, ◌++◌, length, take, Option, Some, Result, Ok, Err, refl, sym, ◌∙◌, ap, subst, arith, length-append, length-take}
 use Rattle.std.specs.Prelude.{slice_index}
 use Rattle.io_ports.specs.declared.feed.Next.{Next}
 use Rattle.io_ports.specs.declared.feed.RecordKind.{RecordKind}
@@ -7,7 +7,6 @@ use Rattle.io_ports.specs.declared.feed.RecordKind.TheVariants as kinds
 use Rattle.io_ports.specs.declared.feed.FeedFault.{FeedFault}
 use Rattle.io_ports.specs.declared.feed.FeedFault.TheVariants as feeds
 use Rattle.desk_laws.specs.declared.item.Item.{Item}
-use Rattle.desk_laws.specs.Stage.{takes_item}
 use Rattle.desk_laws.specs.Items.{FedItem}
 use Rattle.record_format.specs.declared.part.PartRead.{PartRead}
 use Rattle.record_format.specs.declared.part.PartRead.TheVariants as parts
@@ -118,8 +117,8 @@ fields_read guests pages n front r is read tail =
 
 -- the item that was read, with its piece
 pub item_spells : (guests pages n : ℕ) → pages < 2 ^ 32 → (front piece : List ℕ) (item : Item) (len : ℕ) → IsFront n front → IsSpelledBy guests pages (take (1 + n) front) (item, len)
-    → takes_item item ≡ true → length piece ≡ len → Spell guests pages (record { item = item; piece = piece }) (take (1 + n) front ++ piece)
-item_spells guests pages n few front piece item len is by there so_many =
+    → length piece ≡ len → Spell guests pages (record { item = item; piece = piece }) (take (1 + n) front ++ piece)
+item_spells guests pages n few front piece item len is by so_many =
     let given : FedItem = record { item = item; piece = piece } in
     let first : take (1 + n) front ≡ item_spelling item len = front_was n (take (1 + n) front) item len (front_size n front is) (front_kind n front is) by.fits.widths by.spelled in
     let whole : take (1 + n) front ++ piece ≡ fed_spelling given = λ i. (first ∙ ap (item_spelling item) (sym so_many)) i ++ piece in
@@ -127,7 +126,7 @@ item_spells guests pages n few front piece item len is by there so_many =
       spelled = whole;
       found = λ tail.
           ap (λ (l : List ℕ). item_at guests pages (l ++ tail)) whole
-          ∙ item_found guests pages few given tail there (subst (FitsRecord guests pages item) (sym so_many) by.fits)
+          ∙ item_found guests pages few given tail (subst (FitsRecord guests pages item) (sym so_many) by.fits)
           ∙ ap (λ (l : List ℕ). Ok (given, length l)) (sym whole);
     }
 

@@ -15,7 +15,7 @@ use Rattle.io_ports.specs.Content.{Grows, GrowsPart, IsPrefix}
 use Rattle.io_ports.specs.Counts.{HasCause}
 use Rattle.io_ports.proofs.GrowLemmas.{grows_on, part_behind, part_front, prefix_self, prefix_nil}
 use Rattle.desk_core.specs.DeskView.{DeskView, picture_of}
-use Rattle.desk_core.specs.declared.desk.Summary.{Summary}
+use Rattle.desk_core.specs.declared.summary.Summary.{Summary}
 use Rattle.desk_core.specs.declared.desk.Stepped.{Stepped}
 use Rattle.desk_core.specs.declared.desk.Stepped.TheVariants as stepped
 use Rattle.desk_core.specs.DeskStands.{Stands, stepped_of}

@@ -5,7 +5,6 @@ ghost use Rattle.io_ports.specs.Counts.{Rose};
 ghost use Rattle.io_ports.specs.Feeds.{answer_of, given_after};
 ghost use Rattle.desk_laws.specs.declared.limits.TheConstants.{MAX_PIECE};
 ghost use Rattle.desk_laws.specs.Rules.{Fits};
-ghost use Rattle.desk_laws.specs.Stage.{takes_item};
 ghost use Rattle.desk_laws.specs.Frames.{counted};
 ghost use Rattle.desk_laws.specs.Items.{FitsItem};
 ghost use Rattle.replay_driver.specs.ItemParts.{no_item, IsFront, FindsFront, next_of, Finds, size_in};
@@ -63,22 +62,6 @@ fn no_item(at: u64, part: PartRead) -> FeedFault
     match part {
         PartRead::Failed => FeedFault::Failed,
         PartRead::Short => bad(at, RecordKind::Short),
-    }
-}
-
-// Whether the item is one of those that there are so far.
-fn takes_item(item: &Item) -> bool
-    ensures { result ≡ takes_item item.now }
-{
-    match item {
-        Item::Bytes { .. }
-        | Item::Closed { .. }
-        | Item::Store { .. }
-        | Item::Snap
-        | Item::End
-        | Item::Lost { .. }
-        | Item::Idle => true,
-        _ => false,
     }
 }
 
@@ -160,9 +143,6 @@ fn read_item<S: Source>(
         Some(found) => found,
         None => return Err(bad(at, RecordKind::Range)),
     };
-    if !takes_item(&item) {
-        return Err(bad(at, RecordKind::Kind));
-    }
     match fill_whole(source, &mut room[..len]) {
         Ok(()) => Ok((Next { item, len }, 1 + n + len)),
         Err(part) => Err(no_item(at, part)),

@@ -3,7 +3,7 @@ use Rattle.io_ports.specs.declared.feed.RecordKind.{RecordKind}
 use Rattle.io_ports.specs.declared.feed.RecordKind.TheVariants as kinds
 use Rattle.record_format.specs.ItemSpellings.{fed_spelling}
 use Rattle.record_format.specs.RecordGrammar.{item_at}
-use Rattle.record_format.proofs.ItemAtLemmas.{piece_cut, piece_short}
+use Rattle.record_format.proofs.ItemAtLemmas.{piece_short}
 use Rattle.record_format.proofs.ReaderLemmas.{front_is}
 use Rattle.replay_driver.specs.ItemParts.{Spell}
 use Rattle.replay_driver.proofs.ItemLemmas.{took_map, none_here, missing_on, wrong_on, filled_on, fields_read, item_spells, item_size, part_failed}
@@ -25,16 +25,6 @@ returns-in-None-clause-finds g c = λ bytes told.
     wrong_on (NoItem c.args.guests c.args.pages) c.args.at kinds.Range c.bad.result (take (1 + n) front) bytes _ c.bad.ensures
     (fields_read c.args.guests c.args.pages n front _ c.in-Ok.ensures.front c.in-None.ensures.reads) (c.in-Ok.ensures.finds bytes told)
 
-pub returns-then-not-takes_item-clause-finds : goal.returns-then-not-takes_item-clause-finds
-returns-then-not-takes_item-clause-finds g c = λ bytes told.
-    let front = c.in-Ok.found.0 in
-    let n = c.in-Ok.found.1 in
-    let item = c.in-Some.found.0 in
-    let len = c.in-Some.found.1 in
-    wrong_on (NoItem c.args.guests c.args.pages) c.args.at kinds.Kind c.bad-then-not-takes_item.result (take (1 + n) front) bytes _ c.bad-then-not-takes_item.ensures
-    (λ tail. fields_read c.args.guests c.args.pages n front _ c.in-Ok.ensures.front c.in-Some.ensures.reads tail
-    ∙ piece_cut (1 + n) tail item len (sym c.takes_item.ensures ∙ c.if-not-takes_item.true)) (c.in-Ok.ensures.finds bytes told)
-
 pub returns-in-Ok-fill_whole-clause-finds : goal.returns-in-Ok-fill_whole-clause-finds
 returns-in-Ok-fill_whole-clause-finds g c = λ bytes told.
     let front = c.in-Ok.found.0 in
@@ -44,7 +34,7 @@ returns-in-Ok-fill_whole-clause-finds g c = λ bytes told.
     let room = c.fill_whole.new.room in
     let first = c.in-Ok.ensures.finds bytes told in
     let size : length room ≡ len = omega (arith, c.in-Some.ensures.small, length-take {A = ℕ}) in
-    let spells = item_spells c.args.guests c.args.pages n (omega arith) front room item len c.in-Ok.ensures.front c.in-Some.ensures.spelled (sym c.takes_item.ensures ∙ c.if-not-takes_item.false) size in
+    let spells = item_spells c.args.guests c.args.pages n (omega arith) front room item len c.in-Ok.ensures.front c.in-Some.ensures.spelled size in
     let put = take len (room ++ drop len c.args.room.now) in
     let same : put ≡ room = front_is len room (drop len c.args.room.now) size in
     took_map bytes (take (1 + n) front ++ room) _ (Spell c.args.guests c.args.pages (record { item = item; piece = put }))
@@ -73,7 +63,7 @@ returns-in-Err-fill_whole-clause-finds g c = λ bytes told.
     let size : length room ≡ len = omega (arith, c.in-Some.ensures.small, length-take {A = ℕ}) in
     missing_on (NoItem c.args.guests c.args.pages) c.args.at c.in-Err-fill_whole.part c.no_item.result (take (1 + n) front) room bytes _ _ first c.no_item.ensures
     (λ xs short. fields_read c.args.guests c.args.pages n front _ c.in-Ok.ensures.front c.in-Some.ensures.reads xs
-    ∙ piece_short (1 + n) xs item len (sym c.takes_item.ensures ∙ c.if-not-takes_item.false) (omega (arith, short, size)))
+    ∙ piece_short (1 + n) xs item len (omega (arith, short, size)))
     (c.in-Err-fill_whole.ensures.fills first.rest first.is_left)
 
 pub returns-in-Err-fill_whole-clause-keeps : goal.returns-in-Err-fill_whole-clause-keeps

@@ -44,11 +44,11 @@ returns-in-Err-clause-write_later g c = c.loop-n.invariant.write_later
 
 pub slice_bounds-piece-end : goal.slice_bounds-piece-end
 slice_bounds-piece-end g c =
-    omega (arith, c.loop-n.invariant.room, c.next.auto.room, piece_short _ _ c.in-Ok.next.item c.in-Ok.next.len c.in-Ok.ensures.range.in_range)
+    omega (arith, c.loop-n.invariant.room, c.next.auto.room, piece_short _ _ c.in-Ok.next.item c.in-Ok.next.len c.in-Ok.ensures.range)
 
 pub write_item-requires-clause-range : goal.write_item-requires-clause-range
 write_item-requires-clause-range g c =
-    let short : c.in-Ok.next.len ≤ length c.next.new.room = omega (arith, c.loop-n.invariant.room, c.next.auto.room, piece_short _ _ c.in-Ok.next.item c.in-Ok.next.len c.in-Ok.ensures.range.in_range) in
+    let short : c.in-Ok.next.len ≤ length c.next.new.room = omega (arith, c.loop-n.invariant.room, c.next.auto.room, piece_short _ _ c.in-Ok.next.item c.in-Ok.next.len c.in-Ok.ensures.range) in
     let long : c.in-Ok.next.len ≡ length (take c.in-Ok.next.len c.next.new.room) = omega (arith, length-take c.in-Ok.next.len c.next.new.room) in
     fits_desk _ (guests_of c.loop-n.desk) _ (pages_of c.loop-n.desk) c.in-Ok.next.item c.in-Ok.next.len _
     (c.loop-n.invariant.guests ∙ sym (guests_is _ _ _ _ c.loop-n.invariant.so_far.stands))
@@ -76,7 +76,7 @@ returns-in-Err-write_item-clause-ran g c =
     cut_short (FeedCall g.F.Feed.gives g.F.Feed.left g.F.Feed.given) c.args.setup.now c.loop-n._n c.args.bounds.items _ _ _ _ c.write_item.new.desk _ _ _ _ _ _ so_far
     (record { gave = c.in-Ok.ensures.gives; next = c.in-Ok.ensures.coming; counts = c.in-Ok.ensures.given })
     (item_fits c.args.setup.now _ _ c.in-Ok.next.item c.in-Ok.next.len c.next.new.room c.loop-n.invariant.guests c.loop-n.invariant.pages (omega (arith, c.loop-n.invariant.room, c.next.auto.room)) c.in-Ok.ensures.range)
-    (end_or _ _ c.in-Ok.next.item c.in-Ok.next.len c.next.new.room c.in-Ok.ensures.range.in_range) (omega arith) wrote.stands wrote.painted wrote.wrote
+    (end_or _ _ c.in-Ok.next.item c.in-Ok.next.len c.next.new.room c.in-Ok.ensures.range) (omega arith) wrote.stands wrote.painted wrote.wrote
 
 pub returns-in-Err-write_item-clause-keeps : goal.returns-in-Err-write_item-clause-keeps
 returns-in-Err-write_item-clause-keeps g c =
@@ -106,7 +106,7 @@ returns-then-is_end-clause-ran g c =
     ended (FeedCall g.F.Feed.gives g.F.Feed.left g.F.Feed.given) c.args.setup.now c.loop-n._n c.args.bounds.items _ _ _ _ c.write_item.new.desk _ _ _ _ _ _ so_far
     (record { gave = c.in-Ok.ensures.gives; next = c.in-Ok.ensures.coming; counts = c.in-Ok.ensures.given })
     (item_fits c.args.setup.now _ _ c.in-Ok.next.item c.in-Ok.next.len c.next.new.room c.loop-n.invariant.guests c.loop-n.invariant.pages (omega (arith, c.loop-n.invariant.room, c.next.auto.room)) c.in-Ok.ensures.range)
-    (end_alone _ _ c.in-Ok.next.item c.in-Ok.next.len c.next.new.room c.in-Ok.ensures.range.in_range (sym c.is_end.ensures ∙ c.if-is_end.true)) (omega arith) wrote.stands wrote.painted wrote.wrote
+    (end_alone _ _ c.in-Ok.next.item c.in-Ok.next.len c.next.new.room c.in-Ok.ensures.range (sym c.is_end.ensures ∙ c.if-is_end.true)) (omega arith) wrote.stands wrote.painted wrote.wrote
 
 pub returns-then-is_end-clause-keeps : goal.returns-then-is_end-clause-keeps
 returns-then-is_end-clause-keeps g c =
