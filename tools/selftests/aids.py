@@ -53,6 +53,7 @@ ITEMS = (
     ("key up 38 state=0", "05 00 26 0000"),
     ("move -1 3 state=0", "06 ffffffff 03000000 0000"),
     ("press down 1 state=8191", "07 01 01 ff1f"),
+    ("press up 15 state=0", "07 00 0f 0000"),
     ("command close", "08 01 00000000 00000000"),
     ("command next", "08 02 00000000 00000000"),
     ("command restore", "08 03 00000000 00000000"),
@@ -60,6 +61,23 @@ ITEMS = (
     ("command size_to width=0 height=5", "08 05 00000000 05000000"),
     ("snap", "09"),
     ("lost 0", "0b 00"),
+)
+
+# What the user does, wrong: cut within its fields, or with a field out of its range.
+WRONG_EVENTS = (
+    ("05 01 26 00", "short"),
+    ("05 02 26 0000", "range"),
+    ("05 01 26 0020", "range"),
+    ("06 00000000 00000000 00", "short"),
+    ("06 00000000 00000000 ffff", "range"),
+    ("07 01 00 0000", "range"),
+    ("07 00 10 0000", "range"),
+    ("07 01 01 0020", "range"),
+    ("08 04 00000000 000000", "short"),
+    ("08 00 00000000 00000000", "range"),
+    ("08 06 00000000 00000000", "range"),
+    ("08 02 01000000 00000000", "range"),
+    ("08 03 00000000 01000000", "range"),
 )
 
 DESK = "config width=8 height=6 border=1\nguest red ff0000\n"
@@ -202,6 +220,14 @@ class Records(unittest.TestCase):
             (DESK + "store 0 offset=4092 words=0*2\nend\n", 3, "4096"),
             (DESK + "press down 16\nend\n", 3, "button is 1 to 15"),
             (DESK + "key sideways 1\nend\n", 3, "sideways"),
+            (DESK + "key down 256\nend\n", 3, "code is not within 0 to 255"),
+            (DESK + "move 1 2 state=8192\nend\n", 3, "state is at most 8191"),
+            (DESK + "move 2147483648 0\nend\n", 3, "x is not within"),
+            (DESK + "move 1\nend\n", 3, "y is missing"),
+            (DESK + "command move_to x=1\nend\n", 3, "x= and y="),
+            (DESK + "command next x=1\nend\n", 3, "no x= here"),
+            (DESK + "command next a=1\nend\n", 3, "a and b of this command are 0"),
+            (DESK + "command 6\nend\n", 3, "code is 1 to 5"),
             ("config width=8 height=6 border=17\nguest a ff0000\nend\n", 3, "rule 5"),
             ("config width=8\n", 1, "height= is missing"),
             ("config width=8 height=six\n", 1, "six"),
@@ -229,6 +255,7 @@ class Records(unittest.TestCase):
             (EMPTY_DESK[:43] + b"\2\1\1\0\0\0", 43, "range"),
             (EMPTY_DESK[:43] + b"\2\0\0\0\0\0", 43, "range"),
             (EMPTY_DESK[:43] + b"\2\0\2\0\0\0a", 43, "short"),
+            *((EMPTY_DESK[:43] + bytes.fromhex(item), 43, kind) for item, kind in WRONG_EVENTS),
             (EMPTY_DESK[:37] + b"\0", 4, "short"),
             (EMPTY_DESK[:33] + b"\x11", 4, "bad configuration, rule 1"),
             (EMPTY_DESK[:13] + b"\x11" + EMPTY_DESK[14:], 4, "bad configuration, rule 5"),
@@ -257,10 +284,16 @@ class Outputs(unittest.TestCase):
         greeting = numbers("08 06 18 01")
         for reply, wanted in (
             ("7c 01 14 02 00 00 05 36", "KEYPRESS 1 type=press x=0 y=0 state=5 keycode=54"),
+            ("7c 02 14 03 00 00 00 26", "KEYPRESS 2 type=release x=0 y=0 state=0 keycode=38"),
             ("7d 01 14 04 feffffff 01 00 03", "BUTTON 1 type=press x=-2 y=1 state=0 button=3"),
+            ("7d 01 14 05 09 ffffffff 00010000 01", "BUTTON 1 type=release x=9 y=-1 state=256 button=1"),
             ("7e 01 10 09 01 00 00", "MOTION 1 x=9 y=1 state=0 is_hint=0"),
+            ("7f 01 1c 07 00 02 00 00 03 00", "CROSSING 1 type=enter x=0 y=2 state=0 mode=0 detail=3 focus=0"),
             ("7f 01 1c 08 09 01 00 00 03 01", "CROSSING 1 type=leave x=9 y=1 state=0 mode=0 detail=3 focus=1"),
+            ("80 01 0c 09 00 03", "FOCUS 1 type=in mode=0 detail=3"),
             ("80 01 0c 0a 00 03", "FOCUS 1 type=out mode=0 detail=3"),
+            ("8e 00 20" + " 00" * 8, "KEYMAP_NOTIFY 0 keys=none"),
+            ("8e 00 20 40" + " 00" * 7, "KEYMAP_NOTIFY 0 keys=40" + "00" * 31),
             ("86 01 14 0f 01 04 02 01", "CONFIGURE 1 x=15 y=1 width=4 height=2 override=1"),
             ("89 01 00", "CLOSE 1"),
             ("8b 01 00", "CLIPBOARD_REQ 1"),
