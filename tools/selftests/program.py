@@ -1,6 +1,7 @@
 """Runs the built program from outside: each status that can be brought about, and what it takes of memory.
 
 The wanted bytes are hand-computed (see aids). A status is a number and a line on standard error."""
+import io
 import os
 import shutil
 import subprocess
@@ -8,7 +9,10 @@ import tempfile
 import unittest
 
 from formats import record_text
-from selftests.aids import EMPTY_DESK as USUAL_DESK, EMPTY_OUTPUT, EXAMPLES, TOOLS
+from formats.output import PICTURE, posts_of
+from formats.picture import Picture
+from selftests.aids import EMPTY_DESK as USUAL_DESK, EMPTY_OUTPUT, EXAMPLES, FIRST_WINDOW, TOOLS, WINDOW_OUTPUT
+from selftests.aids import WRONG_EVENTS, shown
 
 # Set by tools/selftest.
 PROGRAM = ""
@@ -75,6 +79,7 @@ class Statuses(unittest.TestCase):
             (EMPTY_DESK[:43] + b"\1", 43, "kind", picture),
             (EMPTY_DESK[:43] + b"\2\1\1\0\0\0a", 43, "range", picture),
             (EMPTY_DESK[:43] + b"\2\0\2\0\0\0a", 43, "short", picture),
+            *((EMPTY_DESK[:43] + bytes.fromhex(item), 43, kind, picture) for item, kind in WRONG_EVENTS),
         ):
             self.ends(replay(record), 4, f"bad record at {offset}: {kind}", written)
 
@@ -109,6 +114,85 @@ class Statuses(unittest.TestCase):
             self.assertEqual(replay(record, *words, stderr=None, preexec_fn=closing(2)).returncode, number)
 
 
+def sample(name):
+    """The text of an example."""
+    with open(os.path.join(EXAMPLES, name), encoding="utf-8") as file:
+        return file.read()
+
+
+# Each kind of what the user does, on the desk of contents.txt.
+EVENTS = (
+    "move 160 110", "press down 1", "move 30 30 state=256", "press up 1 state=256", "key down 38", "key up 38",
+    "command next", "command move_to x=60 y=40", "command size_to width=40 height=30", "command restore", "command close",
+)
+
+# What the guests of user_input.txt are told, and the counts.
+USER_INPUT_LINES = """\
+reply 0 version 1.7
+reply 0 xconf width=320 height=200 depth=24 mem=250
+reply 0 WINDOW_DUMP_ACK 1
+reply 0 FOCUS 1 type=in mode=0 detail=3
+reply 0 KEYMAP_NOTIFY 0 keys=none
+reply 0 WINDOW_DUMP_ACK 2
+reply 1 version 1.7
+reply 1 xconf width=320 height=200 depth=24 mem=250
+reply 1 WINDOW_DUMP_ACK 1
+reply 0 CROSSING 1 type=enter x=40 y=44 state=0 mode=0 detail=3 focus=1
+reply 0 BUTTON 1 type=press x=40 y=44 state=0 button=1
+reply 0 MOTION 1 x=110 y=64 state=256 is_hint=0
+reply 0 BUTTON 1 type=release x=110 y=64 state=256 button=1
+reply 0 KEYPRESS 1 type=press x=0 y=0 state=0 keycode=38
+reply 0 KEYPRESS 1 type=release x=0 y=0 state=0 keycode=38
+picture 1: 320 by 200, sha256 *
+reply 0 FOCUS 1 type=out mode=0 detail=3
+reply 0 FOCUS 2 type=in mode=0 detail=3
+reply 0 KEYMAP_NOTIFY 0 keys=none
+reply 0 FOCUS 2 type=out mode=0 detail=3
+reply 1 FOCUS 1 type=in mode=0 detail=3
+reply 1 KEYMAP_NOTIFY 0 keys=none
+reply 0 CROSSING 1 type=leave x=110 y=64 state=0 mode=0 detail=3 focus=0
+reply 1 CROSSING 1 type=enter x=26 y=24 state=0 mode=0 detail=3 focus=1
+reply 1 CONFIGURE 1 x=160 y=80 width=128 height=96 override=0
+reply 1 CROSSING 1 type=leave x=-30 y=0 state=0 mode=0 detail=3 focus=1
+reply 0 CROSSING 1 type=enter x=110 y=64 state=0 mode=0 detail=3 focus=0
+picture 2: 320 by 200, sha256 *
+summary items=46 messages=13 glances=27648 painted=*
+"""
+
+# Pixels of its pictures: the number of the picture, the place, and the colour.
+USER_INPUT_PIXELS = (
+    (1, 147, 111, "eeeeec"),  # the letter's last pixel lies above untrusted's window
+    (1, 149, 113, "3465a4"),  # so does its ring
+    (1, 150, 113, "e1b687"),
+    (1, 104, 151, "cfbbb8"),
+    (1, 60, 128, "202830"),  # the small window is hidden
+    (2, 60, 128, "729fcf"),
+    (2, 59, 128, "3465a4"),
+    (2, 147, 111, "eeeeec"),
+    (2, 150, 113, "202830"),  # untrusted's window has gone from here
+    (2, 160, 80, "ef2929"),
+    (2, 159, 79, "cc0000"),
+)
+
+
+class Samples(unittest.TestCase):
+    """Whole outputs, worked by hand."""
+
+    def test_first_window(self):
+        self.assertEqual(replay(FIRST_WINDOW).stdout, WINDOW_OUTPUT)
+
+    def test_user_input(self):
+        ran = replay(record_text.record_of(sample("user_input.txt")))
+        self.assertEqual((ran.returncode, ran.stderr), (0, b""))
+        lines = shown(ran.stdout)
+        self.assertEqual(len(lines), len(USER_INPUT_LINES.splitlines()))
+        for line, wanted in zip(lines, USER_INPUT_LINES.splitlines()):
+            self.assertTrue(line.startswith(wanted[:-1]) if wanted.endswith("*") else line == wanted, line)
+        pictures = [Picture(post.data).rows() for post in posts_of(io.BytesIO(ran.stdout)) if post.kind == PICTURE]
+        for number, x, y, colour in USER_INPUT_PIXELS:
+            self.assertEqual(pictures[number - 1][y][3 * x:3 * x + 3].hex(), colour, (number, x, y))
+
+
 class Memory(unittest.TestCase):
     """How often the program asks for memory, and what it does where it gets none."""
 
@@ -131,12 +215,12 @@ class Memory(unittest.TestCase):
         return int(last[1])
 
     def test_no_step_takes_memory(self):
-        with open(os.path.join(EXAMPLES, "contents.txt"), encoding="utf-8") as file:
-            text = file.read().splitlines()
+        text = sample("contents.txt").splitlines()
         end = max(at for at, line in enumerate(text) if line.strip() == "end")
         short = [*text[: min(at for at, line in enumerate(text) if line.startswith("guest ")) + 1], "end"]
         longer = [*text[:end], *["snap"] * 50, "end"]
-        counts = {self.counted(record_text.record_of("\n".join(it) + "\n")) for it in (short, text, longer)}
+        used = [*text[:end], *EVENTS * 50, "end"]
+        counts = {self.counted(record_text.record_of("\n".join(it) + "\n")) for it in (short, text, longer, used)}
         self.assertEqual(len(counts), 1, counts)
 
     def test_each_allocation_refused_once(self):
