@@ -3,7 +3,7 @@
 
 use crate::message_tests::{ended, item, no_window, reply, said, spelled};
 use crate::status::Status;
-use crate::tests::{CONFIG, GREETING, TAIL, gives, joined, picture, replayed, summary};
+use crate::tests::{CONFIG, FOCUSED, GREETING, TAIL, gives, joined, picture, replayed, summary};
 use io_ports::{RecordFault, RecordKind};
 use std::alloc::Global;
 use std::test::Fail;
@@ -71,7 +71,7 @@ fn frame_changes_between_loads(rt: HostRuntime) -> Result<(), Fail> {
         &rt,
         alloc,
         &[&CONFIG, &items, &TAIL],
-        &[&GREETING, &ack, &shown, &summary_of(6, 4, 3, 48)],
+        &[&GREETING, &FOCUSED, &ack, &shown, &summary_of(6, 4, 3, 48)],
     )
 }
 
@@ -93,6 +93,7 @@ fn report_outside_the_dump(rt: HostRuntime) -> Result<(), Fail> {
         &[&CONFIG, &items, &outside, &[9], &wrong, &TAIL],
         &[
             &GREETING,
+            &FOCUSED,
             &ack,
             &shown,
             &ended,
@@ -119,6 +120,7 @@ fn cut_and_grown(rt: HostRuntime) -> Result<(), Fail> {
         &[&CONFIG, &items, &cut, &grown, &TAIL],
         &[
             &GREETING,
+            &FOCUSED,
             &ack,
             &small,
             &large,

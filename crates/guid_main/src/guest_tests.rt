@@ -2,12 +2,12 @@
 // have to write was worked by hand.
 
 use crate::message_tests::spelled;
-use crate::tests::{TAIL, gives, joined, picture_behind, summary};
+use crate::tests::{FOCUSED, TAIL, gives, joined, picture_behind, summary};
 use std::alloc::Global;
 use std::test::Fail;
 
 // A black desktop of 10 by 6 pixels, borders of one pixel, and the guests `red` and `green`.
-const SHARED: [u8; 52] = [
+pub(crate) const SHARED: [u8; 52] = [
     81, 71, 82, 49, 1, 10, 0, 0, 0, 6, 0, 0, 0, 1, 0, 0, 0, 0, 32, 0, 0, 0, 16, 0, 0, 90, 0, 0, 0,
     0, 0, 0, 0, 2, 0, 0, 255, 0, 3, 114, 101, 100, 0, 255, 0, 0, 5, 103, 114, 101, 101, 110,
 ];
@@ -22,7 +22,7 @@ fn config_of(width: u8, height: u8, percent: u8) -> [u8; 42] {
 }
 
 // Messages of a guest, behind the version 1.7, as one item.
-fn first(alloc: Global, guest: u8, numbers: &[u32]) -> Result<Vec<u8>, Fail> {
+pub(crate) fn first(alloc: Global, guest: u8, numbers: &[u32]) -> Result<Vec<u8>, Fail> {
     let messages = spelled(alloc, numbers)?;
     let len = messages.len().min(65_536) as u32 + 4;
     joined(
@@ -39,7 +39,7 @@ fn then(alloc: Global, guest: u8, numbers: &[u32]) -> Result<Vec<u8>, Fail> {
 }
 
 // The replies to the version of a guest: the daemon's 1.7, and the desktop's size, 24 bits and so many KiB.
-fn greeted(alloc: Global, guest: u8, desktop: &[u32; 4]) -> Result<Vec<u8>, Fail> {
+pub(crate) fn greeted(alloc: Global, guest: u8, desktop: &[u32; 4]) -> Result<Vec<u8>, Fail> {
     let size = spelled(alloc, desktop)?;
     joined(
         alloc,
@@ -58,30 +58,51 @@ fn told(alloc: Global, window: u32, place: &[u32; 5]) -> Result<Vec<u8>, Fail> {
     joined(alloc, &[&[1, 0, 32, 0, 0, 0], &head, &place])
 }
 
+// What a guest is told where a window of its own gets the focus: FOCUS (in), and KEYMAP_NOTIFY.
+pub(crate) fn focused(alloc: Global, guest: u8, window: u32) -> Result<Vec<u8>, Fail> {
+    let focus = spelled(alloc, &[128, window, 12, 9, 0, 3])?;
+    let keymap = spelled(alloc, &[142, 0, 32, 0, 0, 0, 0, 0, 0, 0, 0])?;
+    joined(
+        alloc,
+        &[
+            &[1, guest, 24, 0, 0, 0],
+            &focus,
+            &[1, guest, 44, 0, 0, 0],
+            &keymap,
+        ],
+    )
+}
+
+// What a guest is told where a window of its own loses the focus: FOCUS (out).
+pub(crate) fn unfocused(alloc: Global, guest: u8, window: u32) -> Result<Vec<u8>, Fail> {
+    let focus = spelled(alloc, &[128, window, 12, 10, 0, 3])?;
+    joined(alloc, &[&[1, guest, 24, 0, 0, 0], &focus])
+}
+
 // A Picture record of 10 by 6 pixels.
-fn shared_picture(alloc: Global, map: &[u8]) -> Result<Vec<u8>, Fail> {
+pub(crate) fn shared_picture(alloc: Global, map: &[u8]) -> Result<Vec<u8>, Fail> {
     picture_behind(alloc, &[3, 192, 0, 0, 0], b"P6\n10 6\n255\n", map)
 }
 
 // A Summary of so many items and messages, with so many pixels drawn.
-fn summary_of(items: u8, messages: u8, painted: u8) -> [u8; 33] {
+pub(crate) fn summary_of(items: u8, messages: u8, painted: u8) -> [u8; 33] {
     let mut record = summary(items, messages);
     record[25] = painted;
     record
 }
 
 // Red's window of 3 by 2 at (1, 1), and then green's at (4, 2). Both have the number 1.
-fn two_mapped(alloc: Global) -> Result<Vec<u8>, Fail> {
+pub(crate) fn two_mapped(alloc: Global) -> Result<Vec<u8>, Fail> {
     let red = first(alloc, 0, &[130, 1, 24, 1, 1, 3, 2, 0, 0, 132, 1, 8, 0, 0])?;
     let green = first(alloc, 1, &[130, 1, 24, 4, 2, 3, 2, 0, 0, 132, 1, 8, 0, 0])?;
     joined(alloc, &[&red, &green])
 }
 
-// Both guests' replies to their versions.
-fn both_greeted(alloc: Global) -> Result<Vec<u8>, Fail> {
+// What both are told: the replies to their versions, and that red's window has the focus, which was mapped first.
+pub(crate) fn two_told(alloc: Global) -> Result<Vec<u8>, Fail> {
     let red = greeted(alloc, 0, &[10, 6, 24, 1])?;
     let green = greeted(alloc, 1, &[10, 6, 24, 1])?;
-    joined(alloc, &[&red, &green])
+    joined(alloc, &[&red, &FOCUSED, &green])
 }
 
 // Green's window alone.
@@ -101,7 +122,7 @@ fn green_alone(alloc: Global) -> Result<Vec<u8>, Fail> {
 fn two_windows(rt: HostRuntime) -> Result<(), Fail> {
     let alloc = rt.alloc();
     let items = two_mapped(alloc)?;
-    let replies = both_greeted(alloc)?;
+    let replies = two_told(alloc)?;
     let shown = shared_picture(
         alloc,
         b"RRRRR.....\
@@ -119,41 +140,44 @@ fn two_windows(rt: HostRuntime) -> Result<(), Fail> {
     )
 }
 
-// Red makes its window 1 again: red's session ends, and green keeps its window 1 and isn't told.
+// Red makes its window 1 again: red's session ends, and green keeps its window 1, which gets the focus.
 #[test]
 fn one_guest_ends(rt: HostRuntime) -> Result<(), Fail> {
     let alloc = rt.alloc();
     let items = two_mapped(alloc)?;
     let again = then(alloc, 0, &[130, 1, 24, 1, 1, 3, 2, 0, 0])?;
-    let replies = both_greeted(alloc)?;
+    let replies = two_told(alloc)?;
     let ended = [2, 0, 6, 1, 0, 0, 0, 0, 0, 0, 0];
+    let green = focused(alloc, 1, 1)?;
     let shown = green_alone(alloc)?;
     gives(
         &rt,
         alloc,
         &[&SHARED, &items, &again, &TAIL],
-        &[&replies, &ended, &shown, &summary_of(5, 4, 60)],
+        &[&replies, &ended, &green, &shown, &summary_of(5, 4, 60)],
     )
 }
 
-// Red minimizes its window: green's alone is shown.
+// Red minimizes its window: green's alone is shown, and gets the focus.
 #[test]
 fn minimized(rt: HostRuntime) -> Result<(), Fail> {
     let alloc = rt.alloc();
     let items = two_mapped(alloc)?;
     let hides = then(alloc, 0, &[145, 1, 8, 4, 0])?;
-    let replies = both_greeted(alloc)?;
+    let replies = two_told(alloc)?;
+    let red = unfocused(alloc, 0, 1)?;
+    let green = focused(alloc, 1, 1)?;
     let shown = green_alone(alloc)?;
     gives(
         &rt,
         alloc,
         &[&SHARED, &items, &hides, &TAIL],
-        &[&replies, &shown, &summary_of(5, 5, 60)],
+        &[&replies, &red, &green, &shown, &summary_of(5, 5, 60)],
     )
 }
 
 // On 20 by 20 pixels a quarter is 100. A window of 8 by 8 takes 100 with its border and is granted, so it
-// is moved inside and told so; one of 8 by 9 takes 110, and stays.
+// is moved inside and told so; one of 8 by 9 takes 110, and stays. It is a window like others, and gets the focus.
 #[test]
 fn override_area_limit(rt: HostRuntime) -> Result<(), Fail> {
     let alloc = rt.alloc();
@@ -181,11 +205,12 @@ fn override_area_limit(rt: HostRuntime) -> Result<(), Fail> {
         &rt,
         alloc,
         &[&config, &larger, &[10]],
-        &[&replies, &summary_of(2, 2, 0)],
+        &[&replies, &FOCUSED, &summary_of(2, 2, 0)],
     )
 }
 
-// Windows of 6 by 6 and of 3 by 4 take 64 and 30 with their borders; a third of 1 by 1 would take 9 more.
+// Windows of 6 by 6 and of 3 by 4 take 64 and 30 with their borders; a third of 1 by 1 would take 9 more. So it is the
+// only one that can have the focus.
 #[test]
 fn override_areas_together(rt: HostRuntime) -> Result<(), Fail> {
     let alloc = rt.alloc();
@@ -203,11 +228,12 @@ fn override_areas_together(rt: HostRuntime) -> Result<(), Fail> {
     let replies = greeted(alloc, 0, &[20, 20, 24, 2])?;
     let one = told(alloc, 1, &[1, 1, 6, 6, 1])?;
     let two = told(alloc, 2, &[1, 1, 3, 4, 1])?;
+    let three = focused(alloc, 0, 3)?;
     gives(
         &rt,
         alloc,
         &[&config, &items, &[10]],
-        &[&replies, &one, &two, &summary_of(2, 6, 0)],
+        &[&replies, &one, &two, &three, &summary_of(2, 6, 0)],
     )
 }
 
@@ -251,7 +277,7 @@ fn full_screen(rt: HostRuntime) -> Result<(), Fail> {
         &rt,
         alloc,
         &[&config, &items, &cleared, &[10]],
-        &[&replies, &full, &summary_of(3, 4, 0)],
+        &[&replies, &FOCUSED, &full, &summary_of(3, 4, 0)],
     )
 }
 

@@ -12,6 +12,8 @@ mod status;
 mod streams;
 #[cfg(test)]
 mod tests;
+#[cfg(test)]
+mod user_tests;
 
 use crate::status::Status;
 use crate::streams::{after_args, run_streams, tell, words_behind};

@@ -1,7 +1,7 @@
 // Messages of one guest, and the ends of its session, through whole runs over memory. What they have
 // to write was worked by hand.
 
-use crate::tests::{CONFIG, GREETING, TAIL, gives, joined, picture, summary};
+use crate::tests::{CONFIG, FOCUSED, GREETING, TAIL, gives, joined, picture, summary};
 use std::alloc::Global;
 use std::process::Abort;
 use std::test::Fail;
@@ -89,7 +89,7 @@ fn one_byte_at_a_time(rt: HostRuntime) -> Result<(), Fail> {
         &rt,
         alloc,
         &[&CONFIG, &items, &TAIL],
-        &[&GREETING, &shown, &summary(62, 2)],
+        &[&GREETING, &FOCUSED, &shown, &summary(62, 2)],
     )
 }
 
@@ -220,7 +220,13 @@ fn early_ends(rt: HostRuntime) -> Result<(), Fail> {
         &rt,
         alloc,
         &[&CONFIG, &mapped, &[11, 0, 11, 0], &TAIL],
-        &[&GREETING, &ended(13, 0, 0), &shown, &summary(5, 2)],
+        &[
+            &GREETING,
+            &FOCUSED,
+            &ended(13, 0, 0),
+            &shown,
+            &summary(5, 2),
+        ],
     )
 }
 
@@ -249,7 +255,7 @@ fn clipboard_data_passes(rt: HostRuntime) -> Result<(), Fail> {
     )
 }
 
-// Window 2 covers window 1 until it is unmapped; then window 1 is destroyed.
+// Window 2 covers window 1 until it is unmapped; then window 1 is destroyed, which had the focus all the time.
 #[test]
 fn windows_go(rt: HostRuntime) -> Result<(), Fail> {
     let alloc = rt.alloc();
@@ -284,6 +290,6 @@ fn windows_go(rt: HostRuntime) -> Result<(), Fail> {
         &rt,
         alloc,
         &[&CONFIG, &mapped, &[9], &unmapped, &[9], &destroyed, &TAIL],
-        &[&GREETING, &both, &first, &none, &counts],
+        &[&GREETING, &FOCUSED, &both, &first, &none, &counts],
     )
 }

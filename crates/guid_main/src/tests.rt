@@ -42,6 +42,13 @@ pub(crate) const GREETING: [u8; 32] = [
     0,
 ];
 
+// What red is told where its window 1 gets the focus: FOCUS (in), and KEYMAP_NOTIFY.
+pub(crate) const FOCUSED: [u8; 80] = [
+    1, 0, 24, 0, 0, 0, 128, 0, 0, 0, 1, 0, 0, 0, 12, 0, 0, 0, 9, 0, 0, 0, 0, 0, 0, 0, 3, 0, 0, 0,
+    1, 0, 44, 0, 0, 0, 142, 0, 0, 0, 0, 0, 0, 0, 32, 0, 0, 0, 0, 0, 0, 0, 0, 0, 0, 0, 0, 0, 0, 0,
+    0, 0, 0, 0, 0, 0, 0, 0, 0, 0, 0, 0, 0, 0, 0, 0, 0, 0, 0, 0,
+];
+
 pub(crate) fn summary(items: u8, messages: u8) -> [u8; 33] {
     let mut record = [0u8; 33];
     record[0] = 4;
@@ -149,7 +156,7 @@ fn one_window(rt: HostRuntime) -> Result<(), Fail> {
         &rt,
         rt.alloc(),
         &[&CONFIG, &ONE_WINDOW, &TAIL],
-        &[&GREETING, &shown, &summary(3, 2)],
+        &[&GREETING, &FOCUSED, &shown, &summary(3, 2)],
     )
 }
 
@@ -168,11 +175,11 @@ fn window_off_the_corner(rt: HostRuntime) -> Result<(), Fail> {
         &rt,
         rt.alloc(),
         &[&CONFIG, &CORNER, &TAIL],
-        &[&GREETING, &shown, &summary(3, 2)],
+        &[&GREETING, &FOCUSED, &shown, &summary(3, 2)],
     )
 }
 
-// The session ends since its window 1 exists, and that window is gone.
+// The session ends since its window 1 exists, and that window is gone: it isn't told that it lost the focus.
 #[test]
 fn window_created_twice(rt: HostRuntime) -> Result<(), Fail> {
     let ended = [2, 0, 6, 1, 0, 0, 0, 0, 0, 0, 0];
@@ -181,7 +188,7 @@ fn window_created_twice(rt: HostRuntime) -> Result<(), Fail> {
         &rt,
         rt.alloc(),
         &[&CONFIG, &ONE_WINDOW, &AGAIN, &TAIL],
-        &[&GREETING, &ended, &shown, &summary(4, 2)],
+        &[&GREETING, &FOCUSED, &ended, &shown, &summary(4, 2)],
     )
 }
 
