@@ -11,10 +11,10 @@ use Rattle.desk_laws.proofs.EventLayers.{event-lists, event-listed}
 use Rattle.desk_laws.proofs.ListedLemmas.{AreListed}
 use Rattle.desk_laws.proofs.SettleLemmas.{all-seat}
 use Rattle.desk_laws.proofs.SettledLemmas.{settle-settles, settled-outcome}
-use Rattle.input_router.specs.declared.router.Routed.{Routed}
+use Rattle.input_router.specs.declared.router.Taken.{Taken}
 use Rattle.input_router.specs.Deliveries as queue
 use Rattle.input_router.specs.Presents.{Presents}
-use Rattle.input_router.specs.Routes.{AreMapped, StaysOn, Routes}
+use Rattle.input_router.specs.Routes.{AreMapped, StaysOn, Takes}
 use Rattle.input_router.proofs.DeliveryLemmas.{route-few}
 use Rattle.input_router.proofs.SceneLemmas.{listed-mapped}
 use Rattle.input_router.proofs.SettledLemmas.{event-settled}
@@ -40,12 +40,12 @@ event-routed P border setup i sessions layers seat scene same on is still routes
     routes setup scene shown (listed-mapped scene is.apart is.follow) still on
 
 -- what was routed and carried out is what the definitions perform
-pub event-performed : {O : Type 0} (takes : O → Post → O → Type 0) (out out' : O) (sessions sessions' : List SessionView) (before after : Layers) (seat seat' : Seat) (routed : Routed) (first waiting : List Delivery) (setup : Setup) (i : Item) (scene : Scene)
+pub event-performed : {O : Type 0} (takes : O → Post → O → Type 0) (out out' : O) (sessions sessions' : List SessionView) (before after : Layers) (seat seat' : Seat) (taken : Taken) (first waiting : List Delivery) (setup : Setup) (i : Item) (scene : Scene)
     → IsScene sessions before seat scene → IsSettled (sizes_of setup) scene → first ≡ []
-    → Routes Queues first waiting seat' before after routed setup i scene
+    → Takes Queues first waiting seat' before after taken setup i scene
     → ((s : Scene) → HasRowsOf sessions s → CarriedOut takes out out' sessions sessions' waiting s)
-    → Performs takes out out' sessions sessions' after seat' routed.settled (sizes_of setup) (perform (route setup i scene) scene)
-event-performed takes out out' sessions sessions' before after seat seat' routed first waiting setup i scene is still none routes done =
+    → Performs takes out out' sessions sessions' after seat' taken.settled (sizes_of setup) (perform (route setup i scene) scene)
+event-performed takes out out' sessions sessions' before after seat seat' taken first waiting setup i scene is still none routes done =
     let r : InputOutcome = route setup i scene in
     let start : Scene = scene_of_input r scene in
     let few : length r.deliveries ≤ 5 = omega (arith, route-few setup i scene) in

@@ -62,9 +62,9 @@ fn perform_event<O: Outlet>(
 {
     let mut queue = Queue::new();
     let places = SessionPlaces { sessions, border };
-    let routed = router.route(item, stack, &places, &mut queue);
+    let taken = router.take(item, stack, &places, &mut queue);
     carry_out(&queue, sessions, out);
-    routed.settled
+    taken.settled
 }
 
 /// Takes an event of the user, on a desktop of this width and height and with borders of so many pixels:

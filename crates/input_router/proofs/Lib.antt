@@ -7,3 +7,4 @@ pub mod SceneLemmas
 pub mod SettleLemmas
 pub mod SettledLemmas
 pub mod WalkLemmas
+pub mod ToldLemmas

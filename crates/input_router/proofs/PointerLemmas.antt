@@ -16,7 +16,7 @@ use Rattle.desk_laws.specs.Events.{on_desktop, with_pointer, motion, moves, move
 use Rattle.input_router.specs.Deliveries.{Leads}
 use Rattle.input_router.specs.Pointed.{motion_in, moves_in, button_in}
 use Rattle.input_router.specs.Presents.{Presents, Carries}
-use Rattle.input_router.specs.Routes.{Raises, changed_by, normal_id, pointed, hover_stays, Presses, Routes}
+use Rattle.input_router.specs.Routes.{Raises, changed_by, normal_id, pointed, hover_stays, Presses, Takes}
 use Rattle.input_router.specs.Seated.{hover_of}
 use Rattle.input_router.specs.Spots.{Spot, spot_of, Shows, has_content, is_over_at}
 use Rattle.input_router.specs.Walks.{top_of}
@@ -59,7 +59,7 @@ module _ {V : Type 0} (delivers : V → Delivery → V → Type 0) (a b : V) (se
       → last ≡ with_pointer p seat
       → Leads delivers a (moves_in spots (Some p) state seat.hover (hover_of spots layers seat.grab (Some p))) b
       → stays ≡ same_id seat.hover (hover_of spots layers seat.grab (Some p))
-      → Routes delivers a b last layers layers (record { raised = None; changed = None; settled = stays }) setup (Move p.x p.y state) scene
+      → Takes delivers a b last layers layers (record { raised = None; changed = None; settled = stays }) setup (Move p.x p.y state) scene
   route-move last state stays inside is_last told is_stays =
       let outcome : InputOutcome = with_deliveries scene (with_pointer p scene.seat) (moves (sizes_of setup) state (hover_now (sizes_of setup) scene) (pointed p scene)) in
       let here : outcome ≡ move setup p state scene = sym (ap (λ (v : Bool). if v then outcome else ignored scene) inside) in

@@ -13,12 +13,12 @@ use Rattle.desk_laws.specs.Settle.{focus_now, IsSettled}
 use Rattle.desk_laws.specs.Sizes.{Sizes, sizes_of}
 use Rattle.desk_laws.specs.declared.input.GIn.TheVariants as g
 use Rattle.desk_laws.specs.Events.{is_among, is_chord, released, with_pressed_keys, plain_key, key_to, key_by, close_by, place_by, raise_by, restore_by, listed, grab_left, button, release_by, press, route}
-use Rattle.input_router.specs.declared.router.Routed.{Routed}
+use Rattle.input_router.specs.declared.router.Taken.{Taken}
 use Rattle.input_router.specs.declared.walks.Wanted.TheVariants.{Normal, Hidden}
 use Rattle.input_router.specs.Commanded.{seated, raised_if, closing, restoring, place_in, placing}
 use Rattle.input_router.specs.Deliveries.{Leads}
 use Rattle.input_router.specs.Presents.{Presents, Carries}
-use Rattle.input_router.specs.Routes.{AreMapped, Raises, changed_by, raised_press, raised_by, settled_by, Presses, Routes}
+use Rattle.input_router.specs.Routes.{AreMapped, Raises, changed_by, raised_press, raised_by, settled_by, Presses, Takes}
 use Rattle.input_router.specs.Spots.{Spot}
 use Rattle.input_router.specs.Walks.{first_wanted, last_wanted}
 use Rattle.input_router.proofs.SceneLemmas.{focus-id, next-id, hidden-id, focus-place}
@@ -32,7 +32,7 @@ record Stays (layers : Layers) (o : InputOutcome) : Type 0 where
 
 stays-routes : {V : Type 0} (delivers : V → Delivery → V → Type 0) (a b : V) (last : Seat) (layers : Layers) (setup : Setup) (event : Item) (scene : Scene) (stays : Bool)
     → Carries delivers a b last (route setup event scene) → Stays layers (route setup event scene) → raised_by setup event scene ≡ None → stays ≡ settled_by setup event scene
-    → Routes delivers a b last layers layers (record { raised = None; changed = None; settled = stays }) setup event scene
+    → Takes delivers a b last layers layers (record { raised = None; changed = None; settled = stays }) setup event scene
 stays-routes delivers a b last layers setup event scene stays is same unraised settled = record {
   carries = is;
   has_layers = sym same.has_layers;
@@ -103,7 +103,7 @@ keyed-same (Some id) down code state scene = key-same id down code state scene
 pub route-key : {V : Type 0} (delivers : V → Delivery → V → Type 0) (a b : V) (setup : Setup) (spots : RowId → Option Spot) (layers : Layers) (seat last : Seat) (down : Bool) (code state : ℕ) (scene : Scene)
     → Presents setup.border spots layers seat scene → IsSettled (sizes_of setup) scene
     → Carries delivers a b last (key_by seat.focus down code state (seated seat))
-    → Routes delivers a b last layers layers (record { raised = None; changed = None; settled = true }) setup (item.Key down code state) scene
+    → Takes delivers a b last layers layers (record { raised = None; changed = None; settled = true }) setup (item.Key down code state) scene
 route-key {V = V} delivers a b setup spots layers seat last down code state scene is still done =
     let focus = focus_now scene in
     let seated_so : Carries delivers a b last (key_by seat.focus down code state (seated scene.seat)) =
@@ -134,7 +134,7 @@ pub record Places (setup : Setup) (event : Item) (scene : Scene) (f : Rect → R
 pub route-close : {V : Type 0} (delivers : V → Delivery → V → Type 0) (a b : V) (setup : Setup) (spots : RowId → Option Spot) (layers : Layers) (seat : Seat) (focus : Option RowId) (scene : Scene)
     → Presents setup.border spots layers seat scene → IsSettled (sizes_of setup) scene → focus ≡ seat.focus
     → Leads delivers a (closing focus) b
-    → Routes delivers a b seat layers layers (record { raised = None; changed = None; settled = false }) setup item.Close scene
+    → Takes delivers a b seat layers layers (record { raised = None; changed = None; settled = false }) setup item.Close scene
 route-close {V = V} delivers a b setup spots layers seat focus scene is still told_is told =
     let c = by_focus (focus_now scene) (subst (λ (o : Option RowId). Leads delivers a (closing o) b) (told_is ∙ focus-told setup.border spots layers seat (sizes_of setup) scene is still) told) in
     stays-routes delivers a b seat layers setup item.Close scene false c.0 c.1 refl refl
@@ -149,7 +149,7 @@ pub route-next : {V : Type 0} (delivers : V → Delivery → V → Type 0) (a : 
     → row ≡ first_wanted Normal spots layers
     → IfSome row (λ id. IsTrue (is_in layers.focus id))
     → new ≡ raised_if row layers
-    → Routes delivers a a seat layers new (record { raised = row; changed = None; settled = false }) setup item.Next scene
+    → Takes delivers a a seat layers new (record { raised = row; changed = None; settled = false }) setup item.Next scene
 route-next {V = V} delivers a setup spots layers new seat row scene is found here is_new =
     let row_is : row ≡ option_map id_of (find (λ r. is_shown r && not r.over) (listed scene)) =
     found ∙ ap (first_wanted Normal spots) (sym is.has_layers) ∙ sym (next-id setup.border spots scene is.shows) in
@@ -178,7 +178,7 @@ pub route-restore : {V : Type 0} (delivers : V → Delivery → V → Type 0) (a
     → IfSome row (λ id. IsTrue (is_in layers.focus id))
     → new ≡ raised_if row layers
     → Leads delivers a (restoring row) b
-    → Routes delivers a b seat layers new (record { raised = row; changed = row; settled = false }) setup item.Restore scene
+    → Takes delivers a b seat layers new (record { raised = row; changed = row; settled = false }) setup item.Restore scene
 route-restore {V = V} delivers a b setup spots layers new seat row scene is mapped found here is_new told =
     let row_is : row ≡ option_map id_of (last_that is_hidden (listed scene)) =
     found ∙ ap (last_wanted Hidden spots) (sym is.has_layers) ∙ sym (hidden-id setup.border spots scene is.shows mapped) in
@@ -206,7 +206,7 @@ pub route-place : {V : Type 0} (delivers : V → Delivery → V → Type 0) (a b
     → Places setup event scene f → focus ≡ seat.focus
     → Leads delivers a (placing f (place_in spots focus)) b
     → row ≡ option_map (λ (found : RowId × Rect). found.0) (place_in spots focus)
-    → Routes delivers a b seat layers layers (record { raised = None; changed = row; settled = false }) setup event scene
+    → Takes delivers a b seat layers layers (record { raised = None; changed = row; settled = false }) setup event scene
 route-place {V = V} delivers a b setup spots layers seat f focus row scene event is still places told_is told is_row =
     let found : place_in spots focus ≡ option_map (λ r. (id_of r, r.place)) (focus_of scene.rows scene.layers) =
     ap (place_in spots) (told_is ∙ focus-told setup.border spots layers seat (sizes_of setup) scene is still ∙ focus-id setup.border spots scene is.shows)
@@ -255,7 +255,7 @@ release-done {V = V} delivers a b setup spots layers seat last down code state s
 
 pub route-press : {V : Type 0} (delivers : V → Delivery → V → Type 0) (a b : V) (setup : Setup) (before after : Layers) (last : Seat) (down : Bool) (code state : ℕ) (row : Option RowId) (scene : Scene)
     → Presses delivers a b last before after row (raised_press setup down scene) (press setup down code state scene)
-    → Routes delivers a b last before after (record { raised = row; changed = None; settled = false }) setup (item.Press down code state) scene
+    → Takes delivers a b last before after (record { raised = row; changed = None; settled = false }) setup (item.Press down code state) scene
 route-press delivers a b setup before after last down code state row scene is = record {
   carries = is.carries;
   has_layers = is.has_layers;
@@ -268,9 +268,9 @@ route-press delivers a b setup before after last down code state row scene is = 
 -- ---- all of them
 
 -- for this item, with this answer
-pub at-item : {V : Type 0} (delivers : V → Delivery → V → Type 0) (a b : V) (last : Seat) (before after : Layers) (setup : Setup) (scene : Scene) (event it : Item) (routed answer : Routed)
-    → event ≡ it → routed ≡ answer → Routes delivers a b last before after answer setup it scene
-    → Routes delivers a b last before after routed setup event scene
-at-item {V = V} delivers a b last before after setup scene event it routed answer is_item is_routed done =
-    subst (λ (i : Item). Routes delivers a b last before after routed setup i scene) (sym is_item)
-    (subst (λ (x : Routed). Routes delivers a b last before after x setup it scene) (sym is_routed) done)
+pub at-item : {V : Type 0} (delivers : V → Delivery → V → Type 0) (a b : V) (last : Seat) (before after : Layers) (setup : Setup) (scene : Scene) (event it : Item) (taken answer : Taken)
+    → event ≡ it → taken ≡ answer → Takes delivers a b last before after answer setup it scene
+    → Takes delivers a b last before after taken setup event scene
+at-item {V = V} delivers a b last before after setup scene event it taken answer is_item is_taken done =
+    subst (λ (i : Item). Takes delivers a b last before after taken setup i scene) (sym is_item)
+    (subst (λ (x : Taken). Takes delivers a b last before after x setup it scene) (sym is_taken) done)

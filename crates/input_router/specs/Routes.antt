@@ -11,8 +11,9 @@ use Rattle.desk_laws.specs.Events.{on_desktop, with_pointer, listed, route}
 use Rattle.desk_laws.specs.Layers.{Layers, is_in, raised, topmost, last_that}
 use Rattle.desk_laws.specs.Rows.{Row, id_of, row_at, is_shown, is_hidden}
 use Rattle.desk_laws.specs.Scene.{Scene, Seat, Grab, Delivery, Grants, InputOutcome}
-use Rattle.desk_laws.specs.Settle.{same_id, hover_now}
+use Rattle.desk_laws.specs.Settle.{grab_shown, same_id, hover_now}
 use Rattle.input_router.specs.declared.router.Routed.{Routed}
+use Rattle.input_router.specs.declared.router.Taken.{Taken}
 use Rattle.input_router.specs.Presents.{Carries}
 use Rattle.input_router.specs.SeatView.{IsPixel}
 
@@ -29,6 +30,14 @@ HasPixel other = Unit {0}
 abbrev pub StaysOn : Setup → Item → Type 0
 StaysOn setup (item.Move x y state) = IsTrue (on_desktop setup (record { x = x; y = y }))
 StaysOn setup other = Unit {0}
+
+-- a row that is grabbed is shown
+abbrev pub HoldsShown : Scene → Type 0
+HoldsShown scene = grab_shown scene.rows scene.seat.grab ≡ scene.seat.grab
+
+-- another focus and hover, as last told
+abbrev pub told : Option RowId → Option RowId → Seat → Seat
+told focus hover seat = record seat { focus = focus; hover = hover }
 
 -- this listed row was raised, or none and the layers are as they were
 abbrev pub Raises : Option RowId → Layers → Layers → Type 0
@@ -94,10 +103,18 @@ pub record Presses {V : Type 0} (delivers : V → Delivery → V → Type 0) (fi
 
 -- seat, layers and deliveries are those of the event's outcome, and what is answered is the row that it raises, the one
 -- whose place or flags it changes, and whether focus and hover stay
+pub record Takes {V : Type 0} (delivers : V → Delivery → V → Type 0) (first last : V) (seat : Seat) (before after : Layers) (taken : Taken) (setup : Setup) (event : Item) (scene : Scene) : Type 0 where
+  pub carries : Carries delivers first last seat (route setup event scene)
+  pub has_layers : after ≡ (route setup event scene).layers
+  pub raises : Raises taken.raised before (route setup event scene).layers
+  pub raised : taken.raised ≡ raised_by setup event scene
+  pub changes : taken.changed ≡ changed_by (route setup event scene).deliveries
+  pub settled : taken.settled ≡ settled_by setup event scene
+
+-- the same, of which it isn't told whether focus and hover stay
 pub record Routes {V : Type 0} (delivers : V → Delivery → V → Type 0) (first last : V) (seat : Seat) (before after : Layers) (routed : Routed) (setup : Setup) (event : Item) (scene : Scene) : Type 0 where
   pub carries : Carries delivers first last seat (route setup event scene)
   pub has_layers : after ≡ (route setup event scene).layers
   pub raises : Raises routed.raised before (route setup event scene).layers
   pub raised : routed.raised ≡ raised_by setup event scene
   pub changes : routed.changed ≡ changed_by (route setup event scene).deliveries
-  pub settled : routed.settled ≡ settled_by setup event scene

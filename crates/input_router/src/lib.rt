@@ -20,4 +20,4 @@ mod walks;
 
 pub use deliver::Deliver;
 pub use places::Places;
-pub use router::{Routed, Router};
+pub use router::{Routed, Router, Taken};

@@ -5,12 +5,13 @@ ghost use Rattle.desk_laws.specs.Scene.{Scene, idle_seat};
 ghost use Rattle.desk_laws.specs.Settle.{IsSettled};
 ghost use Rattle.desk_laws.specs.Sizes.{sizes_of};
 ghost use Rattle.input_router.specs.Presents.{Presents};
-ghost use Rattle.input_router.specs.Routes.{AreMapped, HasPixel, StaysOn, Routes};
+ghost use Rattle.input_router.specs.Routes.{AreMapped, HasPixel, HoldsShown, StaysOn, Routes, Takes, told};
 
 use crate::codes::Codes;
 use crate::commands::{close_focus, move_focus, raise_next, restore_last, size_focus};
 use crate::deliver::Deliver;
 use crate::places::Places;
+use crate::walks::{Wanted, last_listed};
 use desk_laws::{Item, RowId};
 use gui_num::Point;
 use stacking::Stacking;
@@ -42,16 +43,20 @@ impl Model for Router {
     ghost invariant = { λ r. IfSome r.pointer IsPixel };
 }
 
-/// What came of an event.
+/// What an event did to the stack and to a place: the row that it raised, and the row to which it granted
+/// Place or Restored, each `None` exactly where there is none.
 #[derive(Clone, Copy, Debug, PartialEq, Eq)]
 pub struct Routed {
-    /// The row that it raised, also where that changed nothing. Where it is `None` the layers are as
-    /// they were.
     pub raised: Option<RowId>,
-    /// The row to which it granted Place or Restored, `None` exactly where there is none.
     pub changed: Option<RowId>,
-    /// Whether focus and hover are still those last told, so that `settle` has nothing to tell: `true` of
-    /// every key, and of a move in which the hover stays, and `false` of everything else.
+}
+
+/// The same, and whether focus and hover are still those last told: `true` for a key, and for a move in
+/// which the hover stays; of other events it isn't told.
+#[derive(Clone, Copy, Debug, PartialEq, Eq)]
+pub struct Taken {
+    pub raised: Option<RowId>,
+    pub changed: Option<RowId>,
     pub settled: bool,
 }
 
@@ -84,14 +89,25 @@ impl Router {
         self.hover
     }
 
+    // Notes another focus and hover as last told.
+    fn note(&mut self, focus: Option<RowId>, hover: Option<RowId>)
+        ensures { self.new ≡ told focus hover self.old }
+    {
+        self.focus = focus;
+        self.hover = hover;
+    }
+
     /// Takes an event of the user: changes the stack, and tells the rows what is for them. An item that
     /// is no such event does nothing. No memory is taken.
     ///
-    /// A row of the stack that isn't shown counts as hidden, and the focus and the hover that were last
-    /// told as those of this moment: no list is searched for them, but for the hover after a move. What
-    /// comes of it is what `route` of the definitions gives, for every setup and scene that these places,
-    /// this stack and this router are those of, where nothing has changed since `settle` but by what the
-    /// definitions say leaves a scene settled, and the pixel of a Move is on the desktop.
+    /// A row of the stack that isn't shown counts as hidden. What comes of it is what `route` of the
+    /// definitions gives, for every setup and scene that these places, this stack and this router are
+    /// those of, where the stack's rows are mapped, a row that is grabbed is shown, and the pixel of a
+    /// Move is on the desktop. The row that is raised is named each time, also where it is on top
+    /// already.
+    ///
+    /// The rows are looked through for the focus and for the hover. Where both are those last told,
+    /// `take` does the same without that.
     pub fn route<Q: Places, V: Deliver>(
         &mut self,
         item: &Item,
@@ -102,8 +118,36 @@ impl Router {
         requires { HasPixel item.now }
         ensures rows { stack.new.rows ≡ stack.old.rows }
         ensures routes { (setup : Setup) (scene : Scene) → Presents setup.border (Q.spots places.now) stack.old.layers self.old scene
-            → AreMapped scene → IsSettled (sizes_of setup) scene → StaysOn setup item.now
+            → AreMapped scene → HoldsShown scene → StaysOn setup item.now
             → Routes V.delivers to.old to.new self.new stack.old.layers stack.new.layers result setup item.now scene }
+    {
+        let (focus, hover) = (self.focus, self.hover);
+        let focus_now = last_listed(stack, places, Wanted::Normal);
+        let hover_now = self.hover_now(stack, places);
+        self.note(focus_now, hover_now);
+        let taken = self.take(item, stack, places, to);
+        self.note(focus, hover);
+        Routed {
+            raised: taken.raised,
+            changed: taken.changed,
+        }
+    }
+
+    /// Does what `route` does where the focus and the hover of this moment are those last told, as
+    /// `settle` leaves them: a key and the commands for the focus look through no rows, and a move once.
+    /// Answers besides whether both are still those last told, so that `settle` has nothing to tell.
+    pub fn take<Q: Places, V: Deliver>(
+        &mut self,
+        item: &Item,
+        stack: &mut Stacking,
+        places: &Q,
+        to: &mut V,
+    ) -> Taken
+        requires { HasPixel item.now }
+        ensures rows { stack.new.rows ≡ stack.old.rows }
+        ensures takes { (setup : Setup) (scene : Scene) → Presents setup.border (Q.spots places.now) stack.old.layers self.old scene
+            → AreMapped scene → IsSettled (sizes_of setup) scene → StaysOn setup item.now
+            → Takes V.delivers to.old to.new self.new stack.old.layers stack.new.layers result setup item.now scene }
     {
         match *item {
             Item::Key { down, code, state } => {
@@ -135,10 +179,10 @@ impl Router {
 }
 
 // The row that was raised, and the one whose place or flags were changed.
-fn named(raised: Option<RowId>, changed: Option<RowId>) -> Routed
+fn named(raised: Option<RowId>, changed: Option<RowId>) -> Taken
     ensures { result ≡ record { raised = raised; changed = changed; settled = false } }
 {
-    Routed {
+    Taken {
         raised,
         changed,
         settled: false,
@@ -146,10 +190,10 @@ fn named(raised: Option<RowId>, changed: Option<RowId>) -> Routed
 }
 
 // No row was raised or changed.
-fn unraised(settled: bool) -> Routed
+fn unraised(settled: bool) -> Taken
     ensures { result ≡ record { raised = None; changed = None; settled = settled } }
 {
-    Routed {
+    Taken {
         raised: None,
         changed: None,
         settled,

@@ -262,19 +262,20 @@ impl Desk {
         })
     }
 
-    // Routes an event, and answers what came of it.
-    fn routed(&mut self, item: Item) -> Routed
+    // Takes an event, with focus and hover as last told, and answers what came of it.
+    fn taken(&mut self, item: Item) -> Taken
         requires { HasPixel item }
     {
         self.router
-            .route(&item, &mut self.stack, &self.rows, &mut self.log)
+            .take(&item, &mut self.stack, &self.rows, &mut self.log)
     }
 
     // Routes an event, and answers what was told.
     fn route(&mut self, item: Item) -> [Told; 6]
         requires { HasPixel item }
     {
-        self.routed(item);
+        self.router
+            .route(&item, &mut self.stack, &self.rows, &mut self.log);
         self.log.take()
     }
 
@@ -367,8 +368,8 @@ fn keys_and_the_focus(rt: HostRuntime) -> Result<(), NoMemory> {
 }
 
 // What came of an event that changed no place.
-fn came(raised: Option<RowId>, settled: bool) -> Routed {
-    Routed {
+fn came(raised: Option<RowId>, settled: bool) -> Taken {
+    Taken {
         raised,
         changed: None,
         settled,
@@ -376,8 +377,8 @@ fn came(raised: Option<RowId>, settled: bool) -> Routed {
 }
 
 // A button goes down, and comes up again.
-fn click(desk: &mut Desk) -> Routed {
-    let pressed = desk.routed(Item::Press {
+fn click(desk: &mut Desk) -> Taken {
+    let pressed = desk.taken(Item::Press {
         down: true,
         button: 1,
         state: 0,
@@ -398,18 +399,18 @@ fn what_came_of_events(rt: HostRuntime) -> Result<(), NoMemory> {
         y: 15,
         state: 0,
     };
-    assert_eq!(rt; desk.routed(enters), came(None, false));
+    assert_eq!(rt; desk.taken(enters), came(None, false));
     desk.settle();
-    assert_eq!(rt; desk.routed(enters), came(None, true));
+    assert_eq!(rt; desk.taken(enters), came(None, true));
     assert_eq!(rt; click(&mut desk), came(Some(B), false));
     assert_eq!(rt; click(&mut desk), came(Some(B), false));
-    assert_eq!(rt; desk.routed(Item::Next), came(Some(A), false));
+    assert_eq!(rt; desk.taken(Item::Next), came(Some(A), false));
     let key = Item::Key {
         down: true,
         code: 38,
         state: 0,
     };
-    assert_eq!(rt; desk.routed(key), came(None, true));
+    assert_eq!(rt; desk.taken(key), came(None, true));
     Ok(())
 }
 

@@ -1,6 +1,6 @@
 use Rattle.desk_laws.specs.declared.setup.Setup.{Setup}
 use Rattle.desk_laws.specs.Scene.{Scene}
-use Rattle.input_router.specs.Routes.{Routes}
+use Rattle.input_router.specs.Routes.{Takes}
 use Rattle.desk_core.specs.Queued.{Queues}
 use Rattle.desk_core.proofs.EventTurns.{event-routed, event-performed}
 use Rattle.desk_core.proofs.events.perform_event.Goals as goal
@@ -11,7 +11,7 @@ returns-clause-performs g c = λ setup scene border on is still.
     let layers = c.args.stack.now.layers in
     let seat = c.args.router.now in
     let item = c.args.item.now in
-    let P : Setup → Scene → Type 0 = λ s t. Routes Queues c.new-queue.result c.route-routed.new.to c.route-routed.new.self layers c.route-routed.new.stack.layers c.route-routed.result s item t in
-    event-performed g.O.Outlet.takes c.args.out.now c.carry_out.new.out sessions c.carry_out.new.sessions layers c.route-routed.new.stack.layers seat c.route-routed.new.self c.route-routed.result
-    c.new-queue.result c.route-routed.new.to setup item scene is still c.new-queue.ensures
-    (event-routed P c.args.border setup item sessions layers seat scene border on is still c.route-routed.ensures.routes) c.carry_out.ensures
+    let P : Setup → Scene → Type 0 = λ s t. Takes Queues c.new-queue.result c.take-taken.new.to c.take-taken.new.self layers c.take-taken.new.stack.layers c.take-taken.result s item t in
+    event-performed g.O.Outlet.takes c.args.out.now c.carry_out.new.out sessions c.carry_out.new.sessions layers c.take-taken.new.stack.layers seat c.take-taken.new.self c.take-taken.result
+    c.new-queue.result c.take-taken.new.to setup item scene is still c.new-queue.ensures
+    (event-routed P c.args.border setup item sessions layers seat scene border on is still c.take-taken.ensures.takes) c.carry_out.ensures
