@@ -32,7 +32,7 @@ pub(crate) fn first(alloc: Global, guest: u8, numbers: &[u32]) -> Result<Vec<u8>
 }
 
 // Messages of a guest, as one item.
-fn then(alloc: Global, guest: u8, numbers: &[u32]) -> Result<Vec<u8>, Fail> {
+pub(crate) fn then(alloc: Global, guest: u8, numbers: &[u32]) -> Result<Vec<u8>, Fail> {
     let messages = spelled(alloc, numbers)?;
     let len = messages.len().min(65_536) as u32;
     joined(alloc, &[&[2, guest], &len.to_le_bytes(), &messages])

@@ -1,7 +1,8 @@
 // What the user does, through whole runs over memory. What they have to write was worked by hand.
 
 use crate::guest_tests::{
-    SHARED, first, focused, greeted, shared_picture, summary_of, two_mapped, two_told, unfocused,
+    SHARED, first, focused, greeted, shared_picture, summary_of, then, two_mapped, two_told,
+    unfocused,
 };
 use crate::message_tests::{reply, said, spelled};
 use crate::tests::{CONFIG, FOCUSED, GREETING, TAIL, gives, joined, summary};
@@ -212,6 +213,33 @@ fn next_window(rt: HostRuntime) -> Result<(), Fail> {
             &green_out,
             &FOCUSED,
             &summary_of(5, 4, 0),
+        ],
+    )
+}
+
+// Red minimizes its window, and green's gets the focus. Restore shows red's window again, as the last one of the
+// focus list: the focus comes back, and no place is told.
+#[test]
+fn restored(rt: HostRuntime) -> Result<(), Fail> {
+    let alloc = rt.alloc();
+    let items = two_apart(alloc)?;
+    let hides = then(alloc, 0, &[145, 1, 8, 4, 0])?;
+    let restore = [8, 3, 0, 0, 0, 0, 0, 0, 0, 0];
+    let replies = both_told(alloc)?;
+    let red_out = unfocused(alloc, 0, 1)?;
+    let green_in = focused(alloc, 1, 1)?;
+    let green_out = unfocused(alloc, 1, 1)?;
+    gives(
+        &rt,
+        alloc,
+        &[&wide(), &items, &hides, &restore, &[10]],
+        &[
+            &replies,
+            &red_out,
+            &green_in,
+            &green_out,
+            &FOCUSED,
+            &summary_of(5, 5, 0),
         ],
     )
 }
