@@ -14,6 +14,8 @@ mod streams;
 mod tests;
 #[cfg(test)]
 mod user_tests;
+#[cfg(test)]
+mod work_tests;
 
 use crate::status::Status;
 use crate::streams::{after_args, run_streams, tell, words_behind};

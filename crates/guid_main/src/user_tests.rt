@@ -20,7 +20,7 @@ fn moved(x: u8, y: u8) -> [u8; 11] {
 }
 
 // A Reply record of a guest, with these numbers.
-fn told(alloc: Global, guest: u8, numbers: &[u32]) -> Result<Vec<u8>, Fail> {
+pub(crate) fn told(alloc: Global, guest: u8, numbers: &[u32]) -> Result<Vec<u8>, Fail> {
     let bytes = spelled(alloc, numbers)?;
     let len = bytes.len().min(65_536) as u32;
     joined(alloc, &[&[1, guest], &len.to_le_bytes(), &bytes])
