@@ -1,7 +1,7 @@
 // Three guests at work on one desktop, through whole runs over memory. What they have to write was worked
 // by hand.
 
-use crate::guest_tests::{focused, greeted};
+use crate::guest_tests::{focused, greeted, unfocused};
 use crate::message_tests::spelled;
 use crate::tests::{gives, joined};
 use crate::user_tests::told;
@@ -148,7 +148,7 @@ fn sent(alloc: Global) -> Result<Vec<u8>, Fail> {
 
 // What all three are told: each the replies to its version, `work` that its main window has the focus, which
 // was mapped first, and each that its dumps are accepted. The menu lies on the desktop with its border, so
-// its MAP changes no place and tells nothing.
+// its MAP changes no place and tells nothing; that it was granted shows where the user asks for the next window.
 fn all_told(alloc: Global) -> Result<Vec<u8>, Fail> {
     let desktop = [1920, 1080, 24, 8100];
     let work = greeted(alloc, 0, &desktop)?;
@@ -191,4 +191,24 @@ fn three_guests_at_work(rt: HostRuntime) -> Result<(), Fail> {
     let replies = all_told(alloc)?;
     let counts = summary(alloc, 4)?;
     gives(&rt, alloc, &[&config, &items, &[10]], &[&replies, &counts])
+}
+
+// The menu was mapped last and is an override window: next passes it and raises the browser, which comes behind
+// it in the focus list. A menu that isn't granted would get the focus.
+#[test]
+fn next_passes_the_menu(rt: HostRuntime) -> Result<(), Fail> {
+    let alloc = rt.alloc();
+    let config = config(alloc)?;
+    let items = sent(alloc)?;
+    let next = [8, 2, 0, 0, 0, 0, 0, 0, 0, 0];
+    let replies = all_told(alloc)?;
+    let work = unfocused(alloc, 0, MAIN)?;
+    let browser = focused(alloc, 2, MAIN)?;
+    let counts = summary(alloc, 5)?;
+    gives(
+        &rt,
+        alloc,
+        &[&config, &items, &next, &[10]],
+        &[&replies, &work, &browser, &counts],
+    )
 }
