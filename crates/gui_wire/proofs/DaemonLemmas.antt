@@ -88,7 +88,7 @@ fits-daemon_spelled (Keymap keys) h = just-fits 32 (length keys) h
     just-fits n len e = grind (arith, nat_tests)
 fits-daemon_spelled Close h = refl
 fits-daemon_spelled ClipAsk h = refl
-fits-daemon_spelled (ClipGive bytes) h = up-fits 65000 (length bytes) h
+fits-daemon_spelled (ClipGive bytes) h = up-fits 256000 (length bytes) h
   where
     up-fits : (n len : ℕ) → len ≤ n → IsTrue (fits_length (UpTo n) len)
     up-fits n len e = grind (arith, nat_tests)
@@ -233,7 +233,7 @@ daemon_reading-spelled body bytes =
     (λ h m. numbered 5 134 body _ m bytes (fits-just 20 (length body) h) refl (front-place 3 body bytes) (place 0 1 body bytes, (w 2, (w 3, (w 4, tt)))))
     (λ h m. numbered 0 137 body _ m bytes (fits-just 0 (length body) h) refl refl tt)
     (λ h m. numbered 0 139 body _ m bytes (fits-just 0 (length body) h) refl refl tt)
-    (λ h m. same_some (IsBody 140 body) _ m (record { typed = refl; spelled = refl; fits = fits-up_to 65000 (length body) h }))
+    (λ h m. same_some (IsBody 140 body) _ m (record { typed = refl; spelled = refl; fits = fits-up_to 256000 (length body) h }))
     (λ h m. same_some (IsBody 142 body) _ m (record { typed = refl; spelled = refl; fits = fits-just 32 (length body) h }))
     (λ h m. numbered 0 149 body _ m bytes (fits-just 0 (length body) h) refl refl tt)
     (λ k none h m e. absurd (let no = none body in cc))

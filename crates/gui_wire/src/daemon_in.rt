@@ -6,7 +6,7 @@ ghost use Rattle.gui_wire.specs.Seen.{daemon_message, read_as};
 
 use crate::head::header_of;
 use crate::words::{HEAD_LEN, signed_at, word_at};
-use crate::{DaemonMsg, MAX_CLIPBOARD_SIZE, ReadDaemon};
+use crate::{DaemonMsg, MAX_CLIPBOARD_DATA, ReadDaemon};
 
 /// What the bytes begin with: a message to an agent, with clipboard bytes borrowed from them; a whole
 /// message of another type, to be skipped; a message that isn't whole yet, or whose header isn't; or
@@ -57,7 +57,7 @@ fn fits_daemon(kind: u32, len: u32) -> bool
         127 => len == 28,
         128 => len == 12,
         137 | 139 | 149 => len == 0,
-        140 => len <= MAX_CLIPBOARD_SIZE,
+        140 => len <= MAX_CLIPBOARD_DATA,
         142 => len == 32,
         _ => true,
     }

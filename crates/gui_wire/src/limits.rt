@@ -6,8 +6,13 @@ pub const MAX_WINDOW_WIDTH: u32 = 16384;
 /// The greatest height of a window, in pixels: `MAX_WINDOW_HEIGHT` of `qubes-gui-protocol.h`.
 pub const MAX_WINDOW_HEIGHT: u32 = 6144;
 
-/// The most bytes that the clipboard holds: `MAX_CLIPBOARD_SIZE` of `qubes-gui-protocol.h`.
+/// The most bytes that the clipboard holds in its first revision: `MAX_CLIPBOARD_SIZE` of
+/// `qubes-gui-protocol.h`.
 pub const MAX_CLIPBOARD_SIZE: u32 = 65000;
+
+/// The most bytes of a CLIPBOARD_DATA message to an agent, in either revision of the clipboard. The
+/// second revision, and its number, are this project's own.
+pub const MAX_CLIPBOARD_DATA: u32 = 256_000;
 
 /// The flag by which a window asks for the whole desktop: `WINDOW_FLAG_FULLSCREEN` of
 /// `qubes-gui-protocol.h`.

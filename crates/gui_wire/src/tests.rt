@@ -19,6 +19,11 @@ const CONFIGURE: [u8; 32] = [
     0, 0, 1, 0, 0, 0,
 ];
 
+// The headers of clipboard data: 256,000 bytes, and one byte more.
+const LONGEST_DATA: [u8; 12] = [0x8c, 0, 0, 0, 1, 0, 0, 0, 0, 0xe8, 3, 0];
+
+const LONGER_DATA: [u8; 12] = [0x8c, 0, 0, 0, 1, 0, 0, 0, 1, 0xe8, 3, 0];
+
 #[test]
 fn spells_what_an_agent_says(rt: HostRuntime) {
     let create = AgentMsg::Create {
@@ -125,4 +130,15 @@ fn spells_and_reads_what_the_daemon_says(rt: HostRuntime) {
     out[8] = 0x15;
     assert!(rt; matches!(read_daemon(&out), ReadDaemon::Bad { len: 21 }));
     law_spelling();
+}
+
+#[test]
+fn refuses_longer_clipboard_data_by_its_header(rt: HostRuntime) {
+    assert!(rt;
+        matches!(
+            read_daemon(&LONGEST_DATA),
+            ReadDaemon::Need { more: 256_000 }
+        )
+    );
+    assert!(rt; matches!(read_daemon(&LONGER_DATA), ReadDaemon::Bad { len: 256_001 }));
 }

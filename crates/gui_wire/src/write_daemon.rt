@@ -27,7 +27,7 @@ pub fn daemon_len(msg: &DaemonMsg<'_>) -> usize
 
 /// Writes the message's spelling for a window: type, window and length of the body as numbers of four
 /// bytes, the lowest first, and then the body, whose signed numbers stand as two's complement. It
-/// answers how many bytes that are, and the rest of `out` stays. Clipboard data has at most 65,000
+/// answers how many bytes that are, and the rest of `out` stays. Clipboard data has at most 256,000
 /// bytes.
 pub fn spell_daemon(window: u32, msg: &DaemonMsg<'_>, out: &mut [u8]) -> usize
     requires lengths { DaemonKeepsLengths (daemon_message msg.now) }
