@@ -12,9 +12,10 @@ use Rattle.desk_laws.specs.Ranges.{rect_in_range}
 use Rattle.desk_laws.specs.Rows.{Row, row_with, placed_at}
 use Rattle.desk_laws.specs.declared.cause.Cause.TheVariants.{PixelBudget, BadVersion}
 use Rattle.desk_laws.specs.Stream.{StreamUnit, Word, Stop, Whole}
+use Rattle.desk_laws.specs.Outputs.{output_of}
 use Rattle.desk_laws.specs.Override.{effective, taken_besides}
 use Rattle.desk_laws.specs.Tiles.{tiles_in_use, tiles_needed}
-use Rattle.desk_laws.specs.Effects.{Area, clipped, placed_by, mapped_row, unmapped_row, text_of, Same, Added, Replaced, Verdict, Ends, Greets, Goes, Reads, unless, first_of_causes, exists_already, too_many, bad_ref, over_budget, refs_besides, range_fault, created, id_if, isnt_zero, flagged, goes_full, flags_after, configured_row, reads, tells_place, whole_desktop, acks, message_to_window, message_to, in_range_verdict, message_verdict, verdict, greeting}
+use Rattle.desk_laws.specs.Effects.{Area, clipped, placed_by, mapped_row, unmapped_row, text_of, Same, Added, Replaced, Verdict, Ends, Greets, Goes, Reads, unless, first_of_causes, exists_already, too_many, bad_ref, over_budget, refs_besides, range_fault, created, id_if, isnt_zero, flagged, goes_full, flagged_on, flags_after, configured_row, reads, tells_place, whole_output, acks, message_to_window, message_to, in_range_verdict, message_verdict, verdict, greeting}
 use Rattle.desk_laws.specs.Following.{ChangesOne, MessagesChangeOne, MessagesReadOne}
 
 -- what is known of a verdict: where it changes rows or reads pixels, they are those of one window
@@ -59,16 +60,20 @@ module _ (window : ℕ) (own : List Row) where
     replaces new same = record { alone = same ∙ named; from = known }
 
     of_flags : (sizes : Sizes) (flags : ℕ) → IsOfOne window own (flagged sizes row flags)
-    of_flags sizes flags = by_full (goes_full sizes row flags)
+    of_flags sizes flags = by_output (output_of sizes.outputs row.place)
       where
-        full : Row
-        full = placed_at (whole_desktop sizes) (record row { flags = flags })
+        full : Rect → Row
+        full output = placed_at (whole_output sizes output) (record row { flags = flags })
 
-        by_full : (b : Bool) → IsOfOne window own (if b
-            then Goes (Replaced full) (tells_place row.window (whole_desktop sizes) false ∷ [])
+        by_full : (output : Rect) (b : Bool) → IsOfOne window own (if b
+            then Goes (Replaced (full output)) (tells_place row.window (whole_output sizes output) false ∷ [])
             else Goes (Replaced (record row { flags = flags })) [])
-        by_full true = replaces full refl
-        by_full false = replaces (record row { flags = flags }) refl
+        by_full output true = replaces (full output) refl
+        by_full output false = replaces (record row { flags = flags }) refl
+
+        by_output : (o : Option Rect) → IsOfOne window own (flagged_on sizes o row flags)
+        by_output None = replaces (record row { flags = flags }) refl
+        by_output (Some output) = by_full output (goes_full sizes row flags output)
 
     configured : (sizes : Sizes) (asked : Bool) (place : Rect) → (configured_row sizes own asked place row).window ≡ row.window
     configured sizes asked place = by_mapped row.mapped

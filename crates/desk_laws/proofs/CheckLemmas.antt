@@ -9,7 +9,9 @@ use Rattle.desk_laws.specs.declared.cause.Cause.TheVariants.{BadLength, BadRange
 use Rattle.desk_laws.specs.Causes.{number_of}
 use Rattle.desk_laws.specs.Sizes.{Sizes}
 use Rattle.desk_laws.specs.Rows.{Row, row_with, placed_at}
-use Rattle.desk_laws.specs.Effects.{range_fault, first_of_causes, unknown, exists_already, too_many, bad_ref, over_budget, refs_besides, message_verdict, in_range_verdict, message_to, message_to_window, unless, Verdict, Ends, Greets, Goes, Reads, high_bit, out_of, wrong_count, isnt_zero, pages_for, Area, reads, clipped, flagged, flags_after, goes_full, whole_desktop, tells_place, Replaced}
+use Rattle.gui_num.specs.declared.Rect.{Rect}
+use Rattle.desk_laws.specs.Outputs.{output_of}
+use Rattle.desk_laws.specs.Effects.{range_fault, first_of_causes, unknown, exists_already, too_many, bad_ref, over_budget, refs_besides, message_verdict, in_range_verdict, message_to, message_to_window, unless, Verdict, Ends, Greets, Goes, Reads, high_bit, out_of, wrong_count, isnt_zero, pages_for, Area, reads, clipped, flagged, flags_after, goes_full, flagged_on, whole_output, tells_place, Replaced}
 use Rattle.desk_laws.specs.Tiles.{tiles_in_use, tiles_needed}
 use Rattle.desk_laws.specs.Checks.{rows_fault, first_cause, IsChecked, FirstCauseIsTheVerdicts, LooksSame, FirstCauseAsksLittle}
 
@@ -122,10 +124,14 @@ module _ (sizes : Sizes) (guest minor : ℕ) (own : List Row) (window len : ℕ)
       (Ends (PixelBudget (tiles_needed row area.x area.y area.w area.h) (sizes.tiles - tiles_in_use own))) (Reads row area) refl tt
 
   flagged-tiles : (row : Row) (flags : ℕ) → EndsForTiles (flagged sizes row flags)
-  flagged-tiles row flags =
-      tiles-cond (goes_full sizes row flags)
-      (Goes (Replaced (placed_at (whole_desktop sizes) (record row { flags = flags }))) (tells_place row.window (whole_desktop sizes) false ∷ []))
-      (Goes (Replaced (record row { flags = flags })) []) tt tt
+  flagged-tiles row flags = by_output (output_of sizes.outputs row.place)
+    where
+      by_output : (o : Option Rect) → EndsForTiles (flagged_on sizes o row flags)
+      by_output None = tt
+      by_output (Some output) =
+          tiles-cond (goes_full sizes row flags output)
+          (Goes (Replaced (placed_at (whole_output sizes output) (record row { flags = flags }))) (tells_place row.window (whole_output sizes output) false ∷ []))
+          (Goes (Replaced (record row { flags = flags })) []) tt tt
 
   -- a message with nothing wrong among the rows ends the session only for want of tiles
   verdict-tiles : (m : AgentMessage) → rows_fault sizes.pages own window m ≡ None → EndsForTiles (in_range_verdict sizes guest minor own window len m)

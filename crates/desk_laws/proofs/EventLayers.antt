@@ -14,6 +14,7 @@ use Rattle.desk_laws.specs.Layers.{Layers, is_in, are_apart, without, followed, 
 use Rattle.desk_laws.specs.Effects.{Replaced, changed, replaced_in, of_guest, flags_without}
 use Rattle.desk_laws.specs.Following.{LayersFollow, ChangesOne, after_row}
 use Rattle.desk_laws.specs.Grants.{window_of, grant_change, granted, granted_by, granted_to}
+use Rattle.desk_laws.specs.declared.setup.Pair.{Pair}
 use Rattle.desk_laws.specs.Scene.{Scene, InputOutcome, grant, grant_where, grant_in, perform, scene_of_input}
 use Rattle.desk_laws.specs.Settle.{focus_now}
 use Rattle.desk_laws.specs.Events.{route, restore_by, place_by, move_to, size_to, listed}
@@ -157,30 +158,30 @@ module _ (id : RowId) (input : GIn) (scene : Scene) (is : AreListed scene) (leav
 
 -- ---- the events
 
-module _ (scene : Scene) (is : AreListed scene) where
+module _ (denied : List Pair) (scene : Scene) (is : AreListed scene) where
   -- a raise leaves lists that follow the rows
   raised-listed : (row : Row) → AreListed (record scene { layers = raised (id_of row) scene.layers })
   raised-listed row = record { apart = is.apart; lists = raised-follow (id_of row) scene.rows scene.layers is.lists }
 
   -- an event that changes no row
-  calm-lists : (r : InputOutcome) → IsCalm scene r → (perform r scene).scene.layers ≡ r.layers
-  calm-lists r calm = all-layers r.deliveries (scene_of_input r scene) calm.quiet calm.follow
+  calm-lists : (r : InputOutcome) → IsCalm scene r → (perform denied r scene).scene.layers ≡ r.layers
+  calm-lists r calm = all-layers denied r.deliveries (scene_of_input r scene) calm.quiet calm.follow
 
   -- a hidden row is shown again
-  restored-lists : (o : Option Row) → (perform (restore_by o scene) scene).scene.layers ≡ (restore_by o scene).layers
+  restored-lists : (o : Option Row) → (perform denied (restore_by o scene) scene).scene.layers ≡ (restore_by o scene).layers
   restored-lists None = refl
   restored-lists (Some row) =
       grant-lists (id_of row) (g.Restored row.window) (record scene { layers = raised (id_of row) scene.layers })
       (raised-listed row) (restored-leaves (id_of row))
 
   -- a row is given another place
-  placed-lists : (f : Rect → Rect) (o : Option Row) → (perform (place_by o f scene) scene).scene.layers ≡ (place_by o f scene).layers
+  placed-lists : (f : Rect → Rect) (o : Option Row) → (perform denied (place_by o f scene) scene).scene.layers ≡ (place_by o f scene).layers
   placed-lists f None = refl
   placed-lists f (Some row) =
       grant-lists (id_of row) (g.Place row.window (f row.place)) scene is (place-leaves (id_of row) (f row.place))
 
   -- after an event the lists are those that it leaves, whatever is granted
-  pub event-lists : (setup : Setup) (i : Item) → (perform (route setup i scene) scene).scene.layers ≡ (route setup i scene).layers
+  pub event-lists : (setup : Setup) (i : Item) → (perform denied (route setup i scene) scene).scene.layers ≡ (route setup i scene).layers
   event-lists setup (item.Key down code state) = calm-lists _ (calm-key scene is.lists (focus_now scene) down code state)
   event-lists setup (item.Move x y state) = calm-lists _ (calm-move scene is.lists setup (record { x = x; y = y }) state)
   event-lists setup (item.Press down button state) = calm-lists _ (calm-press scene is.lists setup down button state)
@@ -192,28 +193,28 @@ module _ (scene : Scene) (is : AreListed scene) where
   event-lists setup i = refl
 
   -- the lists follow the rows after an event that changes none of them
-  calm-listed : (r : InputOutcome) → IsCalm scene r → AreListed (perform r scene).scene
+  calm-listed : (r : InputOutcome) → IsCalm scene r → AreListed (perform denied r scene).scene
   calm-listed r calm =
-      let rows : (perform r scene).scene.rows ≡ scene.rows = all-rows r.deliveries (scene_of_input r scene) calm.quiet in
+      let rows : (perform denied r scene).scene.rows ≡ scene.rows = all-rows denied r.deliveries (scene_of_input r scene) calm.quiet in
       record {
         apart = ap (λ rs. are_apart (map id_of rs)) rows ∙ is.apart;
-        lists = follow-same (scene_of_input r scene) (perform r scene).scene rows (calm-lists r calm) calm.follow;
+        lists = follow-same (scene_of_input r scene) (perform denied r scene).scene rows (calm-lists r calm) calm.follow;
       }
 
   -- and after a hidden row is shown again
-  restored-listed : (o : Option Row) → AreListed (perform (restore_by o scene) scene).scene
+  restored-listed : (o : Option Row) → AreListed (perform denied (restore_by o scene) scene).scene
   restored-listed None = is
   restored-listed (Some row) =
       grant-listed (id_of row) (g.Restored row.window) (record scene { layers = raised (id_of row) scene.layers })
       (raised-listed row) (restored-leaves (id_of row))
 
   -- and after a row is given another place
-  placed-listed : (f : Rect → Rect) (o : Option Row) → AreListed (perform (place_by o f scene) scene).scene
+  placed-listed : (f : Rect → Rect) (o : Option Row) → AreListed (perform denied (place_by o f scene) scene).scene
   placed-listed f None = is
   placed-listed f (Some row) = grant-listed (id_of row) (g.Place row.window (f row.place)) scene is (place-leaves (id_of row) (f row.place))
 
   -- and they follow the rows that there are then, of which no two have one id
-  pub event-listed : (setup : Setup) (i : Item) → AreListed (perform (route setup i scene) scene).scene
+  pub event-listed : (setup : Setup) (i : Item) → AreListed (perform denied (route setup i scene) scene).scene
   event-listed setup (item.Key down code state) = calm-listed _ (calm-key scene is.lists (focus_now scene) down code state)
   event-listed setup (item.Move x y state) = calm-listed _ (calm-move scene is.lists setup (record { x = x; y = y }) state)
   event-listed setup (item.Press down button state) = calm-listed _ (calm-press scene is.lists setup down button state)

@@ -16,6 +16,7 @@ use Rattle.desk_laws.specs.Following.{LayersFollow, ChangesOne}
 use Rattle.desk_laws.specs.Override.{KeepsLimits}
 use Rattle.desk_laws.specs.Effects.{Change, Replaced, changed}
 use Rattle.desk_laws.specs.Grants.{window_of, grant_change, granted_by, granted_to}
+use Rattle.desk_laws.specs.declared.setup.Pair.{Pair}
 use Rattle.desk_laws.specs.Scene.{Scene, InputOutcome, grant, grant_where, grant_in, perform, scene_of_input}
 use Rattle.desk_laws.specs.State.{DeskState}
 use Rattle.desk_laws.specs.Settle.{settle, focus_now}
@@ -116,16 +117,16 @@ placed-fits sizes own limits row place normal =
     subst (λ o. IsWithin sizes own row.window (row.mapped && o) place) (sym normal)
     (and-within sizes own limits row.window row.mapped false place (none-within sizes own limits row.window place))
 
-module _ (sizes : Sizes) (scene : Scene) (is : AreListed scene) (limits : KeepsLimits sizes scene.rows) where
+module _ (denied : List Pair) (sizes : Sizes) (scene : Scene) (is : AreListed scene) (limits : KeepsLimits sizes scene.rows) where
   -- an event that changes no row
-  calm-kept : (r : InputOutcome) → IsCalm scene r → Keeps sizes scene.rows (perform r scene).scene
+  calm-kept : (r : InputOutcome) → IsCalm scene r → Keeps sizes scene.rows (perform denied r scene).scene
   calm-kept r calm =
-      let rows : (perform r scene).scene.rows ≡ scene.rows = all-rows r.deliveries (scene_of_input r scene) calm.quiet in
-      let layers : (perform r scene).scene.layers ≡ r.layers = all-layers r.deliveries (scene_of_input r scene) calm.quiet calm.follow in
-      same-kept sizes scene.rows (perform r scene).scene rows (follow-same (scene_of_input r scene) (perform r scene).scene rows layers calm.follow) is.apart limits
+      let rows : (perform denied r scene).scene.rows ≡ scene.rows = all-rows denied r.deliveries (scene_of_input r scene) calm.quiet in
+      let layers : (perform denied r scene).scene.layers ≡ r.layers = all-layers denied r.deliveries (scene_of_input r scene) calm.quiet calm.follow in
+      same-kept sizes scene.rows (perform denied r scene).scene rows (follow-same (scene_of_input r scene) (perform denied r scene).scene rows layers calm.follow) is.apart limits
 
   -- a hidden row is shown again: its place and its layer stay
-  restored-kept : (o : Option Row) → Keeps sizes scene.rows (perform (restore_by o scene) scene).scene
+  restored-kept : (o : Option Row) → Keeps sizes scene.rows (perform denied (restore_by o scene) scene).scene
   restored-kept None = calm-kept (restore_by None scene) (calm-ignored scene is.lists)
   restored-kept (Some row) =
       grant-kept sizes (id_of row) (g.Restored row.window) [] (record scene { layers = raised (id_of row) scene.layers })
@@ -136,7 +137,7 @@ module _ (sizes : Sizes) (scene : Scene) (is : AreListed scene) (limits : KeepsL
       })
 
   -- the focus at another place: it is in the normal layer, where no limit holds
-  placed-kept : (f : Rect → Rect) (o : Option Row) → focus_of scene.rows scene.layers ≡ o → Keeps sizes scene.rows (perform (place_by o f scene) scene).scene
+  placed-kept : (f : Rect → Rect) (o : Option Row) → focus_of scene.rows scene.layers ≡ o → Keeps sizes scene.rows (perform denied (place_by o f scene) scene).scene
   placed-kept f None focus = calm-kept (place_by None f scene) (calm-ignored scene is.lists)
   placed-kept f (Some row) focus =
       grant-kept sizes (id_of row) (g.Place row.window (f row.place)) [] scene is limits
@@ -161,25 +162,25 @@ module _ (sizes : Sizes) (scene : Scene) (is : AreListed scene) (limits : KeepsL
           placed-fits sizes (mine row.guest scene.rows) (of-guest sizes row.guest scene.rows limits) found (f row.place) normal
 
 pub event-kept : (setup : Setup) (i : Item) (scene : Scene) → AreListed scene → KeepsLimits (sizes_of setup) scene.rows
-    → Keeps (sizes_of setup) scene.rows (perform (route setup i scene) scene).scene
+    → Keeps (sizes_of setup) scene.rows (perform setup.denied (route setup i scene) scene).scene
 event-kept setup (item.Key down code state) scene is limits =
-    calm-kept (sizes_of setup) scene is limits _ (calm-key scene is.lists (focus_now scene) down code state)
+    calm-kept setup.denied (sizes_of setup) scene is limits _ (calm-key scene is.lists (focus_now scene) down code state)
 event-kept setup (item.Move x y state) scene is limits =
-    calm-kept (sizes_of setup) scene is limits _ (calm-move scene is.lists setup (record { x = x; y = y }) state)
+    calm-kept setup.denied (sizes_of setup) scene is limits _ (calm-move scene is.lists setup (record { x = x; y = y }) state)
 event-kept setup (item.Press down button state) scene is limits =
-    calm-kept (sizes_of setup) scene is limits _ (calm-press scene is.lists setup down button state)
-event-kept setup item.Close scene is limits = calm-kept (sizes_of setup) scene is limits _ (calm-close scene is.lists (focus_now scene))
+    calm-kept setup.denied (sizes_of setup) scene is limits _ (calm-press scene is.lists setup down button state)
+event-kept setup item.Close scene is limits = calm-kept setup.denied (sizes_of setup) scene is limits _ (calm-close scene is.lists (focus_now scene))
 event-kept setup item.Next scene is limits =
-    calm-kept (sizes_of setup) scene is limits _ (calm-raise scene is.lists (find (λ row. is_shown row && not row.over) (listed scene)))
-event-kept setup item.Restore scene is limits = restored-kept (sizes_of setup) scene is limits (last_that is_hidden (listed scene))
-event-kept setup (item.MoveTo x y) scene is limits = placed-kept (sizes_of setup) scene is limits (move_to x y) (focus_of scene.rows scene.layers) refl
-event-kept setup (item.SizeTo w h) scene is limits = placed-kept (sizes_of setup) scene is limits (size_to w h) (focus_of scene.rows scene.layers) refl
-event-kept setup i scene is limits = calm-kept (sizes_of setup) scene is limits _ (calm-ignored scene is.lists)
+    calm-kept setup.denied (sizes_of setup) scene is limits _ (calm-raise scene is.lists (find (λ row. is_shown row && not row.over) (listed scene)))
+event-kept setup item.Restore scene is limits = restored-kept setup.denied (sizes_of setup) scene is limits (last_that is_hidden (listed scene))
+event-kept setup (item.MoveTo x y) scene is limits = placed-kept setup.denied (sizes_of setup) scene is limits (move_to x y) (focus_of scene.rows scene.layers) refl
+event-kept setup (item.SizeTo w h) scene is limits = placed-kept setup.denied (sizes_of setup) scene is limits (size_to w h) (focus_of scene.rows scene.layers) refl
+event-kept setup i scene is limits = calm-kept setup.denied (sizes_of setup) scene is limits _ (calm-ignored scene is.lists)
 
 -- what the user does, settled, keeps a state sound
 pub event-sound : (setup : Setup) (i : Item) (desk : DeskState) → IsSound setup desk → IsSound setup (event setup i desk).desk
 event-sound setup i desk is =
-    let after : Scene = (perform (route setup i desk.scene) desk.scene).scene in
+    let after : Scene = (perform setup.denied (route setup i desk.scene) desk.scene).scene in
     let kept : Keeps (sizes_of setup) desk.scene.rows (settle (sizes_of setup) after).scene =
     settled-kept (sizes_of setup) desk.scene.rows after (event-kept setup i desk.scene (record { apart = is.apart; lists = is.lists }) is.limits) in
     record {

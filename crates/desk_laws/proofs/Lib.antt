@@ -14,6 +14,7 @@ pub mod ShareLemmas
 pub mod SettleLemmas
 pub mod SettledLemmas
 pub mod ListedLemmas
+pub mod OutputLemmas
 pub mod LimitLemmas
 pub mod EventLayers
 pub mod EventLemmas

@@ -1,6 +1,6 @@
 -- Override windows keep their limits.
-use Rattle.std.proofs.Common.{◌≡◌, ℕ, ◌+◌, ◌*◌, ◌≤◌, Bool, true, false, ◌&&◌, not, ◌==◌, List, [], ◌∷◌, ◌++◌, map, Option, Some, None, is_some, refl, sym, ap, subst, arith}
-use Rattle.std.specs.Prelude.{filter, length, if◌then◌else◌, ◌-◌, ◌/◌, ◌%◌, nat_lt, nat_le, ℤ, pos, ◌+ℤ◌, ◌≤ℤ◌}
+use Rattle.std.proofs.Common.{◌≡◌, ℕ, zero, suc, ◌+◌, ◌*◌, ◌≤◌, Bool, true, false, ◌&&◌, not, ◌==◌, List, [], ◌∷◌, ◌++◌, map, Option, Some, None, is_some, refl, sym, ap, subst, arith}
+use Rattle.std.specs.Prelude.{filter, length, if◌then◌else◌, ◌-◌, ◌/◌, ◌%◌, nat_lt, nat_le, ℤ, pos, ◌+ℤ◌, ◌-ℤ◌, int_le}
 use Rattle.std.specs.List.{All}
 use Rattle.std.proofs.lemmas.Bool.{and_parts, not-true, eqb-true, eqb-false, leb-true, both_ways}
 use Rattle.std.proofs.lemmas.Int.{ints, clamps}
@@ -23,34 +23,36 @@ use Rattle.desk_laws.specs.Scene.{Scene, Input, Took}
 use Rattle.desk_laws.specs.Settle.{settle}
 use Rattle.desk_laws.specs.Tiles.{tiles_in_use, tiles_needed}
 use Rattle.desk_laws.specs.Frames.{load_all}
-use Rattle.desk_laws.specs.Effects.{Effect, Change, Same, Added, Replaced, Removed, Cleared, changed, replaced_in, of_guest, forgets, name_without, Area, clipped, placed_by, configured_row, Verdict, Ends, Greets, Goes, Reads, unless, first_of_causes, exists_already, too_many, bad_ref, over_budget, refs_besides, range_fault, created, id_if, isnt_zero, flagged, goes_full, flags_after, reads, tells_place, whole_desktop, acks, message_to_window, message_to, in_range_verdict, message_verdict, verdict, greeting, drawn_row, frame_places, points}
+use Rattle.desk_laws.specs.Effects.{Effect, Change, Same, Added, Replaced, Removed, Cleared, changed, replaced_in, of_guest, forgets, name_without, Area, clipped, placed_by, configured_row, Verdict, Ends, Greets, Goes, Reads, unless, first_of_causes, exists_already, too_many, bad_ref, over_budget, refs_besides, range_fault, created, id_if, isnt_zero, flagged, goes_full, flagged_on, flags_after, reads, tells_place, whole_output, acks, message_to_window, message_to, in_range_verdict, message_verdict, verdict, greeting, drawn_row, frame_places, points}
 use Rattle.desk_laws.specs.Following.{ChangesOne}
 use Rattle.desk_laws.specs.State.{DeskState, session_of}
 use Rattle.desk_laws.specs.Steps.{take_unit, take_units, take_bytes, end_session, unit_of_open, unit_told, end_told, went, ends, with_rest, bytes_of_open, end_of_open}
-use Rattle.desk_laws.specs.Override.{Placement, effective, is_granted, moved_inside, taken_besides, is_over, area_over, LiesOnDesktop, KeepsLimits}
+use Rattle.desk_laws.specs.Outputs.{output_of, lies_in, largest}
+use Rattle.desk_laws.specs.Override.{Placement, placed_in, effective, is_granted, moved_inside, moved_into, taken_besides, is_over, area_over, lies_in_one, KeepsLimits}
 use Rattle.desk_laws.proofs.ChangeLemmas.{IsOfOne, window_of_unit, of_unit, found-window}
 use Rattle.desk_laws.proofs.OtherLemmas.{others-keep_rows}
 use Rattle.desk_laws.proofs.ShareLemmas.{besides-le, besides-and_row, replaced-area, added-area, fewer-area, forgetting-area}
 use Rattle.desk_laws.proofs.ListedLemmas.{AreListed, done, unit-listed, rest-scene}
 use Rattle.desk_laws.proofs.SettleLemmas.{settle-rows}
 use Rattle.desk_laws.proofs.UnitLemmas.{effect_of}
+use Rattle.desk_laws.proofs.OutputLemmas.{output-any, output-largest}
 
 -- ---- the limits of one guest's rows
 
--- a row, if it is a mapped override window, lies on the desktop
+-- a row, if it is a mapped override window, lies with its border in one output
 abbrev pub IsInside : Sizes → Row → Type 0
-IsInside sizes row = is_over row ≡ true → LiesOnDesktop sizes (outer sizes.border row)
+IsInside sizes row = is_over row ≡ true → lies_in_one sizes.outputs (outer sizes.border row) ≡ true
 
 -- a guest's own rows keep the limits
 pub record OwnLimits (sizes : Sizes) (own : List Row) : Type 0 where
   pub inside : All (IsInside sizes) own
-  pub share : 100 * area_over sizes.border own ≤ sizes.percent * sizes.width * sizes.height
+  pub share : 100 * area_over sizes.border own ≤ sizes.percent * largest sizes.outputs
 
 -- a window at this place, in the override layer or not, keeps the limits beside the other rows
 pub record IsWithin (sizes : Sizes) (own : List Row) (window : ℕ) (over : Bool) (place : Rect) : Type 0 where
-  pub inside : over ≡ true → LiesOnDesktop sizes (grown place sizes.border)
+  pub inside : over ≡ true → lies_in_one sizes.outputs (grown place sizes.border) ≡ true
   pub share : 100 * (taken_besides sizes.border window own + (if over then area (grown place sizes.border) else 0))
-      ≤ sizes.percent * sizes.width * sizes.height
+      ≤ sizes.percent * largest sizes.outputs
 
 -- a row in the place of its window's keeps the limits
 abbrev pub FitsRow : Sizes → List Row → Row → Type 0
@@ -65,31 +67,34 @@ of-guest sizes guest rows limits = record {
 hundredfold : (a b p : ℕ) → a ≤ b → 100 * b ≤ p → 100 * a ≤ p
 hundredfold a b p less most = omega arith
 
-moved-low : (z : ℤ) (size border limit : ℕ) → pos border ≤ℤ moved_inside z size border limit
-moved-low z size border limit = omega (arith, ints, clamps)
+moved-low : (z : ℤ) (size border : ℕ) (a : ℤ) (limit : ℕ) → int_le a (moved_inside z size border a limit -ℤ pos border) ≡ true
+moved-low z size border a limit = grind (arith, ints, clamps)
 
-moved-high : (z : ℤ) (size border limit : ℕ) → size + 2 * border ≤ limit → (moved_inside z size border limit +ℤ pos (size + border)) ≤ℤ pos limit
-moved-high z size border limit fits = omega (arith, ints, clamps)
+moved-high : (z : ℤ) (size border : ℕ) (a : ℤ) (limit : ℕ) → size + 2 * border ≤ limit
+    → int_le ((moved_inside z size border a limit -ℤ pos border) +ℤ pos (size + 2 * border)) (a +ℤ pos limit) ≡ true
+moved-high z size border a limit fits = grind (arith, ints, clamps)
 
--- a moved window lies on the desktop with its border
-moved-lies : (sizes : Sizes) (place : Rect) → place.w + 2 * sizes.border ≤ sizes.width → place.h + 2 * sizes.border ≤ sizes.height
-    → LiesOnDesktop sizes (grown (record {
-      x = moved_inside place.x place.w sizes.border sizes.width;
-      y = moved_inside place.y place.h sizes.border sizes.height;
-      w = place.w;
-      h = place.h;
-    }) sizes.border)
-moved-lies sizes place wide high =
-    let x_low = moved-low place.x place.w sizes.border sizes.width in
-    let y_low = moved-low place.y place.h sizes.border sizes.height in
-    let x_high = moved-high place.x place.w sizes.border sizes.width wide in
-    let y_high = moved-high place.y place.h sizes.border sizes.height high in
-    record {
-      left_edge = omega (arith, ints);
-      top_edge = omega (arith, ints);
-      right_edge = omega (arith, ints);
-      bottom_edge = omega (arith, ints);
-    }
+all-four : (a b c d : Bool) → a ≡ true → b ≡ true → c ≡ true → d ≡ true → ((a && b) && (c && d)) ≡ true
+all-four a b c d ea eb ec ed = cc
+
+-- a moved window lies in the output with its border
+moved-lies : (output : Rect) (border : ℕ) (place : Rect) → place.w + 2 * border ≤ output.w → place.h + 2 * border ≤ output.h
+    → lies_in output (grown (moved_into output border place) border) ≡ true
+moved-lies output border place wide high =
+    all-four _ _ _ _
+    (moved-low place.x place.w border output.x output.w) (moved-low place.y place.h border output.y output.h)
+    (moved-high place.x place.w border output.x output.w wide) (moved-high place.y place.h border output.y output.h high)
+
+-- a percent of an output is at most that of the largest
+share-most : (need percent area most : ℕ) → need ≤ percent * area → area ≤ most → need ≤ percent * most
+share-most need percent area most less larger = ≤-trans less (*-mono percent area most larger)
+  where
+    ≤-trans : {a b c : ℕ} → a ≤ b → b ≤ c → a ≤ c
+    ≤-trans ab bc = omega arith
+
+    *-mono : (p a b : ℕ) → a ≤ b → p * a ≤ p * b
+    *-mono zero a b less = omega arith
+    *-mono (suc p) a b less = let rest : p * a ≤ p * b = *-mono p a b less in omega arith
 
 module _ (sizes : Sizes) (own : List Row) (limits : OwnLimits sizes own) where
   -- a window that isn't in the override layer
@@ -110,28 +115,30 @@ module _ (sizes : Sizes) (own : List Row) (limits : OwnLimits sizes own) where
   -- what the override rule gives
   effective-within : (window : ℕ) (asked : Bool) (place : Rect)
       → IsWithin sizes own window (effective sizes asked place (taken_besides sizes.border window own)).over (effective sizes asked place (taken_besides sizes.border window own)).rect
-  effective-within window asked place = by_grant (is_granted sizes asked place (taken_besides sizes.border window own)) refl
+  effective-within window asked place = by_output (output_of sizes.outputs place) refl
     where
-      moved : Rect
-      moved = record {
-        x = moved_inside place.x place.w sizes.border sizes.width;
-        y = moved_inside place.y place.h sizes.border sizes.height;
-        w = place.w;
-        h = place.h;
-      }
+      taken : ℕ
+      taken = taken_besides sizes.border window own
 
-      result : Bool → Placement
-      result b = if b then record { rect = moved; over = true } else record { rect = place; over = false }
+      result : Rect → Bool → Placement
+      result output b = if b then record { rect = moved_into output sizes.border place; over = true } else record { rect = place; over = false }
 
-      by_grant : (b : Bool) → is_granted sizes asked place (taken_besides sizes.border window own) ≡ b → IsWithin sizes own window (result b).over (result b).rect
-      by_grant true e =
-          let parts = and_parts (asked && (nat_le (place.w + 2 * sizes.border) sizes.width && nat_le (place.h + 2 * sizes.border) sizes.height)) _ e in
-          let fits = and_parts (nat_le (place.w + 2 * sizes.border) sizes.width) (nat_le (place.h + 2 * sizes.border) sizes.height) (and_parts asked _ parts.0).1 in
+      by_grant : (output : Rect) → output_of sizes.outputs place ≡ Some output → (b : Bool) → is_granted sizes output asked place taken ≡ b
+          → IsWithin sizes own window (result output b).over (result output b).rect
+      by_grant output is true e =
+          let parts = and_parts (asked && (nat_le (place.w + 2 * sizes.border) output.w && nat_le (place.h + 2 * sizes.border) output.h)) _ e in
+          let fits = and_parts (nat_le (place.w + 2 * sizes.border) output.w) (nat_le (place.h + 2 * sizes.border) output.h) (and_parts asked _ parts.0).1 in
           record {
-            inside = λ e. moved-lies sizes place (leb-true _ _ fits.0) (leb-true _ _ fits.1);
-            share = leb-true _ _ parts.1;
+            inside = λ e. output-any (λ o. lies_in o (grown (moved_into output sizes.border place) sizes.border)) sizes.outputs place output is
+                (moved-lies output sizes.border place (leb-true _ _ fits.0) (leb-true _ _ fits.1));
+            share = share-most _ sizes.percent (area output) (largest sizes.outputs) (leb-true _ _ parts.1) (output-largest sizes.outputs place output is);
           }
-      by_grant false e = none-within window place
+      by_grant output is false e = none-within window place
+
+      by_output : (o : Option Rect) → output_of sizes.outputs place ≡ o
+          → IsWithin sizes own window (placed_in sizes o asked place taken).over (placed_in sizes o asked place taken).rect
+      by_output None is = none-within window place
+      by_output (Some output) is = by_grant output is (is_granted sizes output asked place taken) refl
 
   -- the row that is there, inside
   found-inside : (window : ℕ) (rows : List Row) (row : Row) → row_with window rows ≡ Some row → All (IsInside sizes) rows → IsInside sizes row
@@ -193,23 +200,28 @@ module _ (sizes : Sizes) (own : List Row) (limits : OwnLimits sizes own) where
             subst (λ m. IsWithin sizes own row.window (m && row.over) place) (sym h) (none-within sizes own limits row.window place)
 
     fits-flags : (flags : ℕ) → FitsVerdict sizes own (flagged sizes row flags)
-    fits-flags flags = by_full (goes_full sizes row flags) refl
+    fits-flags flags = by_output (output_of sizes.outputs row.place)
       where
-        full : Row
-        full = placed_at (whole_desktop sizes) (record row { flags = flags })
+        full : Rect → Row
+        full output = placed_at (whole_output sizes output) (record row { flags = flags })
 
         goes : Bool
         goes = not (has_flag WINDOW_FLAG_FULLSCREEN row.flags) && has_flag WINDOW_FLAG_FULLSCREEN flags
 
-        by_full : (b : Bool) → goes_full sizes row flags ≡ b → FitsVerdict sizes own (if b
-            then Goes (Replaced full) (tells_place row.window (whole_desktop sizes) false ∷ [])
+        by_full : (output : Rect) (b : Bool) → goes_full sizes row flags output ≡ b → FitsVerdict sizes own (if b
+            then Goes (Replaced (full output)) (tells_place row.window (whole_output sizes output) false ∷ [])
             else Goes (Replaced (record row { flags = flags })) [])
-        by_full true h =
+        by_full output true h =
+            let place : Rect = whole_output sizes output in
             let wanted = and_parts (goes && not row.over) _ h in
             let normal : row.over ≡ false = not-true row.over (and_parts goes (not row.over) wanted.0).1 in
-            subst (λ o. IsWithin sizes own row.window (row.mapped && o) (whole_desktop sizes)) (sym normal)
-            (and-within sizes own limits row.window row.mapped false (whole_desktop sizes) (none-within sizes own limits row.window (whole_desktop sizes)))
-        by_full false h = stays
+            subst (λ o. IsWithin sizes own row.window (row.mapped && o) place) (sym normal)
+            (and-within sizes own limits row.window row.mapped false place (none-within sizes own limits row.window place))
+        by_full output false h = stays
+
+        by_output : (o : Option Rect) → FitsVerdict sizes own (flagged_on sizes o row flags)
+        by_output None = stays
+        by_output (Some output) = by_full output (goes_full sizes row flags output) refl
 
     fits-reads : (area : Area) → FitsVerdict sizes own (reads sizes own row area)
     fits-reads area = by_tiles (nat_lt (sizes.tiles - tiles_in_use own) (tiles_needed row area.x area.y area.w area.h))
@@ -304,19 +316,19 @@ module _ (sizes : Sizes) (guest : ℕ) (rows : List Row) (limits : KeepsLimits s
       by_row row false one = one
 
       by_guest : (other : ℕ) (b : Bool) → (other == guest) ≡ b
-          → 100 * area_over sizes.border (mine other (changed guest (Replaced new) rows)) ≤ sizes.percent * sizes.width * sizes.height
+          → 100 * area_over sizes.border (mine other (changed guest (Replaced new) rows)) ≤ sizes.percent * largest sizes.outputs
       by_guest other true e =
-          subst (λ n. 100 * area_over sizes.border (mine n (changed guest (Replaced new) rows)) ≤ sizes.percent * sizes.width * sizes.height) (sym (eqb-true other guest e))
+          subst (λ n. 100 * area_over sizes.border (mine n (changed guest (Replaced new) rows)) ≤ sizes.percent * largest sizes.outputs) (sym (eqb-true other guest e))
           (hundredfold _ _ _ (replaced-area sizes.border guest new rows apart) fits.share)
       by_guest other false e =
-          subst (λ own. 100 * area_over sizes.border own ≤ sizes.percent * sizes.width * sizes.height)
+          subst (λ own. 100 * area_over sizes.border own ≤ sizes.percent * largest sizes.outputs)
           (sym (others-keep_rows guest other (Replaced new) rows (eqb-false other guest e))) (limits.share other)
 
   -- a new row that isn't mapped
   pub added-limited : (row : Row) → row.mapped ≡ false → KeepsLimits sizes (changed guest (Added row) rows)
   added-limited row unmapped = record {
     inside = All-push (IsInside sizes) rows (of_guest guest row) limits.inside (λ e. absurd (both_ways (is_over row) (off row.mapped row.over unmapped) e));
-    share = λ other. subst (λ n. 100 * n ≤ sizes.percent * sizes.width * sizes.height) (sym (added-area sizes.border other rows (of_guest guest row) unmapped)) (limits.share other);
+    share = λ other. subst (λ n. 100 * n ≤ sizes.percent * largest sizes.outputs) (sym (added-area sizes.border other rows (of_guest guest row) unmapped)) (limits.share other);
   }
     where
       off : (mapped over : Bool) → mapped ≡ false → (mapped && over) ≡ false
@@ -334,7 +346,7 @@ forgetting-limited : (sizes : Sizes) (guest window : ℕ) (rows : List Row) → 
 forgetting-limited sizes guest window rows limits = record {
   inside = All-map (IsInside sizes) (forgets guest window) rows
       (All-weaker (IsInside sizes) (λ row. IsInside sizes (forgets guest window row)) (λ row one. by_guest row (row.guest == guest) one) rows limits.inside);
-  share = λ other. subst (λ n. 100 * n ≤ sizes.percent * sizes.width * sizes.height) (sym (forgetting-area sizes.border other guest window rows)) (limits.share other);
+  share = λ other. subst (λ n. 100 * n ≤ sizes.percent * largest sizes.outputs) (sym (forgetting-area sizes.border other guest window rows)) (limits.share other);
 }
   where
     by_guest : (row : Row) (b : Bool) → IsInside sizes row
@@ -362,7 +374,7 @@ module _ (setup : Setup) (guest : ℕ) where
   -- the rows of a unit, settled
   unit-kept : (unit : StreamUnit) (e : Effect) (desk : DeskState) → KeepsLimits (sizes_of setup) e.rows
       → KeepsLimits (sizes_of setup) (went setup guest unit e desk).desk.scene.rows
-  unit-kept unit e desk limits = settled-limited (sizes_of setup) (unit_told guest unit e desk.scene).scene limits
+  unit-kept unit e desk limits = settled-limited (sizes_of setup) (unit_told (sizes_of setup).clip_limit guest unit e desk.scene).scene limits
 
   -- the rows that an end leaves, settled
   end-kept : (input : Input) (cause : Cause) (desk : DeskState) → KeepsLimits (sizes_of setup) desk.scene.rows

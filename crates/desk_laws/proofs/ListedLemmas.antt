@@ -36,7 +36,7 @@ module _ (setup : Setup) (guest : ℕ) where
   unit-settled : (unit : StreamUnit) (e : Effect) (desk : DeskState) → are_apart (map id_of e.rows) ≡ true → LayersFollow e.rows (followed e.rows desk.scene.layers)
       → AreListed (went setup guest unit e desk).desk.scene
   unit-settled unit e desk apart lists =
-      settled-listed (sizes_of setup) (unit_told guest unit e desk.scene).scene (record { apart = apart; lists = lists })
+      settled-listed (sizes_of setup) (unit_told (sizes_of setup).clip_limit guest unit e desk.scene).scene (record { apart = apart; lists = lists })
 
   ends-listed : (input : Input) (cause : Cause) (desk : DeskState) → AreListed desk.scene → AreListed (ends setup guest input cause desk).desk.scene
   ends-listed input cause desk is =

@@ -15,7 +15,8 @@ use Rattle.desk_laws.specs.Layers.{Layers, last_that, or_else, topmost, focus_of
 use Rattle.desk_laws.specs.Following.{LayersFollow}
 use Rattle.desk_laws.specs.Scene.{Scene, Seat, Grab, Delivery, Grants, Asks, Pastes, InputOutcome, with_deliveries, ignored}
 use Rattle.desk_laws.specs.Settle.{hover_now, same_id, pointer_in}
-use Rattle.desk_laws.specs.Events.{on_desktop, with_pointer, motion, moves, move, button, is_among, layers_pressed, press_row, press_owner, press_by, grabbing, held, release_by, grab_left, released, press, plain_key, with_pressed_keys, is_chord, key_to, key_by, close_by, raise_by}
+use Rattle.desk_laws.specs.Outputs.{is_in_output}
+use Rattle.desk_laws.specs.Events.{with_pointer, motion, moves, move, button, is_among, layers_pressed, press_row, press_owner, press_by, grabbing, held, release_by, grab_left, released, press, plain_key, with_pressed_keys, is_chord, key_to, key_by, close_by, raise_by}
 use Rattle.desk_laws.proofs.EdgeLemmas.{last-passes}
 use Rattle.desk_laws.proofs.FollowLemmas.{is_row-same}
 use Rattle.desk_laws.proofs.IdLemmas.{same_row-is}
@@ -63,7 +64,7 @@ module _ (scene : Scene) (follow : LayersFollow scene.rows scene.layers) where
 
   -- the pointer moves
   pub calm-move : (setup : Setup) (p : Point) (state : ℕ) → IsCalm scene (move setup p state scene)
-  calm-move setup p state = by_place (on_desktop setup p)
+  calm-move setup p state = by_place (is_in_output setup.outputs p)
     where
       by_place : (b : Bool) → IsCalm scene (if b then with_deliveries scene (with_pointer p scene.seat)
           (moves (sizes_of setup) state (hover_now (sizes_of setup) scene) (record scene { seat = with_pointer p scene.seat })) else ignored scene)

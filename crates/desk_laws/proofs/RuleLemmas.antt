@@ -1,8 +1,8 @@
 -- What the rules of a setup say of its numbers.
-use Rattle.std.proofs.Common.{◌≡◌, ℕ, zero, suc, nat_le, get_or, ◌+◌, ◌≤◌, Bool, true, false, List, [], ◌∷◌, length, None, refl}
+use Rattle.std.proofs.Common.{◌≡◌, ℕ, zero, suc, nat_le, get_or, ◌+◌, ◌≤◌, Bool, true, false, List, [], ◌∷◌, length, Option, Some, None, refl}
 use Rattle.std.proofs.lemmas.Bool.{and_parts, leb-true}
 use Rattle.desk_laws.specs.declared.setup.Setup.{Setup}
-use Rattle.desk_laws.specs.Rules.{within, rules, first_false, first_broken}
+use Rattle.desk_laws.specs.Rules.{within, rules, later_rules, or_later, first_false, first_broken}
 
 -- the ranges that a desktop needs
 pub record HasRanges (s : Setup) : Type 0 where
@@ -25,8 +25,13 @@ most least n m is = leb-true m n (and_parts (nat_le least m) (nat_le m n) is).1
 least : (n m k : ℕ) → within n m k ≡ true → n ≤ k
 least n m k is = leb-true n k (and_parts (nat_le n k) (nat_le k m) is).0
 
+-- no earlier rule is broken where none is
+earlier : (o later : Option ℕ) → or_later o later ≡ None → o ≡ None
+earlier None later is = refl
+earlier (Some n) later is = cc
+
 pub ranges-kept : (s : Setup) → first_broken s ≡ None → HasRanges s
-ranges-kept s is = record {
+ranges-kept s kept = let is : first_false 1 (rules s) ≡ None = earlier (first_false 1 (rules s)) (first_false 17 (later_rules s)) kept in record {
   some = least 1 16 (length s.guests) (rule-holds 1 (rules s) 0 is);
   few = most 1 16 (length s.guests) (rule-holds 1 (rules s) 0 is);
   wide = most 1 8192 s.width (rule-holds 1 (rules s) 1 is);

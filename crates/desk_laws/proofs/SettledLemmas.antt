@@ -21,7 +21,9 @@ use Rattle.desk_laws.specs.Frames.{load_all}
 use Rattle.desk_laws.specs.Scene.{Scene, Seat, Grab, Delivery, Grants, Asks, Pastes, InputOutcome, SceneOutcome, Post, GuestInput, outcome_after, and_then, unchanged, perform, scene_of_input, with_rows, with_deliveries, ignored}
 use Rattle.desk_laws.specs.State.{DeskState, opening, session_of}
 use Rattle.desk_laws.specs.Settle.{focus_now, hover_now, hover_by, content_owner, same_id, grab_shown, grab_checked, focusing, keymap, crossing, focus_told, hover_told, settled_seat, settled, settle, IsSettled}
-use Rattle.desk_laws.specs.Events.{on_desktop, with_pointer, moves, move, is_among, is_chord, held, released, with_pressed_keys, plain_key, key_by, route}
+use Rattle.desk_laws.specs.declared.setup.Pair.{Pair}
+use Rattle.desk_laws.specs.Outputs.{is_in_output}
+use Rattle.desk_laws.specs.Events.{with_pointer, moves, move, is_among, is_chord, held, released, with_pressed_keys, plain_key, key_by, route}
 use Rattle.desk_laws.specs.Steps.{unit_told, unit_effect}
 use Rattle.desk_laws.proofs.ChangeLemmas.{found-window, window_of_unit, of_unit, IsOfOne}
 use Rattle.desk_laws.proofs.FollowChanges.{the, row_with-mine, replaced-ids, replaced-other, followed-same}
@@ -267,7 +269,7 @@ settle-settles sizes scene follow =
 -- there is nothing to tell, and nothing changes
 pub settled-silent : (sizes : Sizes) (scene : Scene) → IsSettled sizes scene → settle sizes scene ≡ unchanged scene
 settled-silent sizes scene is =
-    ap (λ (s : Scene). perform (settled sizes s) scene) checked ∙ ap (λ (r : InputOutcome). perform r scene) nothing
+    ap (λ (s : Scene). perform [] (settled sizes s) scene) checked ∙ ap (λ (r : InputOutcome). perform [] r scene) nothing
   where
     checked : grab_checked scene ≡ scene
     checked = ap (λ (kept : Option Grab). in_seat (record scene.seat { grab = kept }) scene) is.grab
@@ -390,33 +392,33 @@ module _ (setup : Setup) (guest : ℕ) (unit : StreamUnit) (desk : DeskState) (r
 
   -- what becomes of the scene, by the effect
   told-by : (v : Verdict) → verdict (sizes_of setup) guest (session_of guest desk).minor (mine guest desk.scene.rows) unit ≡ v
-      → (unit_told guest unit (unit_effect setup guest unit desk) desk.scene).scene ≡ (unit_told guest unit (effect_of guest desk v) desk.scene).scene
-  told-by v e = ap (λ (w : Verdict). (unit_told guest unit (effect_of guest desk w) desk.scene).scene) e
+      → (unit_told (sizes_of setup).clip_limit guest unit (unit_effect setup guest unit desk) desk.scene).scene ≡ (unit_told (sizes_of setup).clip_limit guest unit (effect_of guest desk v) desk.scene).scene
+  told-by v e = ap (λ (w : Verdict). (unit_told (sizes_of setup).clip_limit guest unit (effect_of guest desk w) desk.scene).scene) e
 
   -- the layers stay
-  pub read-layers : (unit_told guest unit (unit_effect setup guest unit desk) desk.scene).scene.layers ≡ desk.scene.layers
+  pub read-layers : (unit_told (sizes_of setup).clip_limit guest unit (unit_effect setup guest unit desk) desk.scene).scene.layers ≡ desk.scene.layers
   read-layers = ap (λ (s : Scene). s.layers) (told-by (Reads row area) reads) ∙ redrawn-layers (sizes_of setup) desk.scene guest row drawn is here looks-drawn
 
   -- what was settled stays so
-  pub settled-read : IsSettled (sizes_of setup) desk.scene → IsSettled (sizes_of setup) (unit_told guest unit (unit_effect setup guest unit desk) desk.scene).scene
+  pub settled-read : IsSettled (sizes_of setup) desk.scene → IsSettled (sizes_of setup) (unit_told (sizes_of setup).clip_limit guest unit (unit_effect setup guest unit desk) desk.scene).scene
   settled-read still =
       let after : Scene = with_rows (changed guest (Replaced drawn) desk.scene.rows) desk.scene in
       let drawn-settled : IsSettled (sizes_of setup) after = settled-redrawn (sizes_of setup) desk.scene guest row drawn is here looks-drawn still in
-      let clip : IsSettled (sizes_of setup) (unit_told guest unit (effect_of guest desk (Reads row area)) desk.scene).scene =
-      same-settled (sizes_of setup) after (unit_told guest unit (effect_of guest desk (Reads row area)) desk.scene).scene refl refl refl drawn-settled in
+      let clip : IsSettled (sizes_of setup) (unit_told (sizes_of setup).clip_limit guest unit (effect_of guest desk (Reads row area)) desk.scene).scene =
+      same-settled (sizes_of setup) after (unit_told (sizes_of setup).clip_limit guest unit (effect_of guest desk (Reads row area)) desk.scene).scene refl refl refl drawn-settled in
       subst (λ (s : Scene). IsSettled (sizes_of setup) s) (sym (told-by (Reads row area) reads)) clip
 
 -- ---- what the user does
 
 -- an event that changes no row, and the layers and the seat no more than this
-module _ (sizes : Sizes) (scene : Scene) (r : InputOutcome) (calm : IsCalm scene r) where
+module _ (denied : List Pair) (sizes : Sizes) (scene : Scene) (r : InputOutcome) (calm : IsCalm scene r) where
   -- the scene is settled where it is so before the deliveries
-  calm-settled : IsSettled sizes (scene_of_input r scene) → IsSettled sizes (perform r scene).scene
+  calm-settled : IsSettled sizes (scene_of_input r scene) → IsSettled sizes (perform denied r scene).scene
   calm-settled still =
-      same-settled sizes (scene_of_input r scene) (perform r scene).scene
-      (all-rows r.deliveries (scene_of_input r scene) calm.quiet)
-      (all-layers r.deliveries (scene_of_input r scene) calm.quiet calm.follow)
-      (all-seat r.deliveries (scene_of_input r scene)) still
+      same-settled sizes (scene_of_input r scene) (perform denied r scene).scene
+      (all-rows denied r.deliveries (scene_of_input r scene) calm.quiet)
+      (all-layers denied r.deliveries (scene_of_input r scene) calm.quiet calm.follow)
+      (all-seat denied r.deliveries (scene_of_input r scene)) still
 
 -- the same layers, and the same seat but for its pressed keys
 record LeavesSeat (scene : Scene) (r : InputOutcome) : Type 0 where
@@ -458,17 +460,17 @@ key-leaves scene (Some id) down code state = by_chord (down && (is_chord state &
 
 module _ (setup : Setup) (scene : Scene) (follow : LayersFollow scene.rows scene.layers) (still : IsSettled (sizes_of setup) scene) where
   -- a key leaves a scene settled
-  pub key-settled : (down : Bool) (code state : ℕ) → IsSettled (sizes_of setup) (perform (route setup (item.Key down code state) scene) scene).scene
+  pub key-settled : (down : Bool) (code state : ℕ) → IsSettled (sizes_of setup) (perform setup.denied (route setup (item.Key down code state) scene) scene).scene
   key-settled down code state =
-      calm-settled (sizes_of setup) scene (key_by (focus_now scene) down code state scene) (calm-key scene follow (focus_now scene) down code state)
+      calm-settled setup.denied (sizes_of setup) scene (key_by (focus_now scene) down code state scene) (calm-key scene follow (focus_now scene) down code state)
       (leaves-seat (sizes_of setup) scene (key_by (focus_now scene) down code state scene) (key-leaves scene (focus_now scene) down code state) still)
 
   -- so does a move in which the hover stays
   pub moved-settled : (x y : ℤ) (state : ℕ)
       → same_id (hover_now (sizes_of setup) scene) (hover_now (sizes_of setup) (record scene { seat = with_pointer (record { x = x; y = y }) scene.seat })) ≡ true
-      → IsSettled (sizes_of setup) (perform (route setup (item.Move x y state) scene) scene).scene
+      → IsSettled (sizes_of setup) (perform setup.denied (route setup (item.Move x y state) scene) scene).scene
   moved-settled x y state stays =
-      calm-settled (sizes_of setup) scene (move setup p state scene) (calm-move scene follow setup p state) (by_place (on_desktop setup p))
+      calm-settled setup.denied (sizes_of setup) scene (move setup p state scene) (calm-move scene follow setup p state) (by_place (is_in_output setup.outputs p))
     where
       p : Point
       p = record { x = x; y = y }

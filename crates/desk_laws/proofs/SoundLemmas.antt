@@ -32,7 +32,7 @@ use Rattle.desk_laws.proofs.EndLemmas.{length-unit, length-rest, bytes-other, en
 module _ (setup : Setup) (guest other : ℕ) (apart : other ≢ guest) where
   -- the rows of a unit, settled
   went-keeps : (unit : StreamUnit) (e : Effect) (desk : DeskState) → mine other e.rows ≡ mine other desk.scene.rows → mine other (went setup guest unit e desk).desk.scene.rows ≡ mine other desk.scene.rows
-  went-keeps unit e desk same = ap (mine other) (settle-rows (sizes_of setup) (unit_told guest unit e desk.scene).scene) ∙ same
+  went-keeps unit e desk same = ap (mine other) (settle-rows (sizes_of setup) (unit_told (sizes_of setup).clip_limit guest unit e desk.scene).scene) ∙ same
 
   -- the rows that an end leaves, settled
   ends-keep : (input : Input) (cause : Cause) (desk : DeskState) → mine other (ends setup guest input cause desk).desk.scene.rows ≡ mine other desk.scene.rows

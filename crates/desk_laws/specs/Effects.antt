@@ -1,5 +1,5 @@
 -- What a unit of a guest does: to its rows, its minor number and its frames, and what it answers.
-use Rattle.std.specs.Prelude.{ℕ, ◌+◌, ◌-◌, ◌*◌, ◌/◌, ◌%◌, ◌^◌, min, Bool, true, false, ◌&&◌, ◌||◌, not, ◌==◌, nat_lt, nat_le, List, [], ◌∷◌, ◌++◌, map, filter, length, replicate, sum_by, take_while, slice_index, slice_set, Option, Some, None, is_some, bit_and, bit_or, if◌then◌else◌, ℤ, pos, int_le}
+use Rattle.std.specs.Prelude.{ℕ, ◌+◌, ◌-◌, ◌*◌, ◌/◌, ◌%◌, ◌^◌, min, Bool, true, false, ◌&&◌, ◌||◌, not, ◌==◌, nat_lt, nat_le, List, [], ◌∷◌, ◌++◌, map, filter, length, replicate, sum_by, take_while, slice_index, slice_set, Option, Some, None, is_some, bit_and, bit_or, if◌then◌else◌, ℤ, pos, ◌+ℤ◌, int_le}
 use Rattle.gui_num.specs.declared.Rect.{Rect}
 use Rattle.gui_wire.specs.declared.Header.{Header}
 use Rattle.gui_wire.specs.Words.{word, words}
@@ -15,6 +15,7 @@ use Rattle.desk_laws.specs.declared.cause.Cause.TheVariants.{BadVersion, BadType
 use Rattle.desk_laws.specs.Stream.{StreamUnit, Word, Stop, Whole}
 use Rattle.desk_laws.specs.Rows.{Row, DumpOf, mine, is_row, row_with, has_flag, grid, placed_at}
 use Rattle.desk_laws.specs.Ranges.{rect_in_range}
+use Rattle.desk_laws.specs.Outputs.{output_of}
 use Rattle.desk_laws.specs.Override.{Placement, effective, taken_besides}
 use Rattle.desk_laws.specs.Tiles.{tiles_in_use, tiles_needed}
 use Rattle.desk_laws.specs.Frames.{PortState, FramePlace, Loads, load_all}
@@ -249,26 +250,33 @@ configured_row sizes own asked place row =
     then placed_by (effective sizes asked place (taken_besides sizes.border row.window own)) (record row { asked = asked })
     else placed_at place (record row { asked = asked })
 
--- the desktop less the border
-abbrev pub whole_desktop : Sizes → Rect
-whole_desktop sizes = record {
-  x = pos sizes.border;
-  y = pos sizes.border;
-  w = sizes.width - 2 * sizes.border;
-  h = min MAX_WINDOW_HEIGHT (sizes.height - 2 * sizes.border);
+-- an output less the border
+abbrev pub whole_output : Sizes → Rect → Rect
+whole_output sizes output = record {
+  x = output.x +ℤ pos sizes.border;
+  y = output.y +ℤ pos sizes.border;
+  w = output.w - 2 * sizes.border;
+  h = min MAX_WINDOW_HEIGHT (output.h - 2 * sizes.border);
 }
 
--- whether WINDOW_FLAGS puts the row on the whole desktop
-abbrev pub goes_full : Sizes → Row → ℕ → Bool
-goes_full sizes row flags =
+-- whether WINDOW_FLAGS puts the row on a whole output
+abbrev pub goes_full : Sizes → Row → ℕ → Rect → Bool
+goes_full sizes row flags output =
     ((not (has_flag WINDOW_FLAG_FULLSCREEN row.flags) && has_flag WINDOW_FLAG_FULLSCREEN flags) && not row.over)
-    && (nat_lt (2 * sizes.border) sizes.width && nat_lt (2 * sizes.border) sizes.height)
+    && (nat_lt (2 * sizes.border) output.w && nat_lt (2 * sizes.border) output.h)
 
-abbrev pub flagged : Sizes → Row → ℕ → Verdict
-flagged sizes row flags =
-    if goes_full sizes row flags
-    then Goes (Replaced (placed_at (whole_desktop sizes) (record row { flags = flags }))) (tells_place row.window (whole_desktop sizes) false ∷ [])
+-- WINDOW_FLAGS of a row whose output is this one
+abbrev pub flagged_on : Sizes → Option Rect → Row → ℕ → Verdict
+flagged_on sizes None row flags = Goes (Replaced (record row { flags = flags })) []
+flagged_on sizes (Some output) row flags =
+    if goes_full sizes row flags output
+    then Goes (Replaced (placed_at (whole_output sizes output) (record row { flags = flags })))
+    (tells_place row.window (whole_output sizes output) false ∷ [])
     else Goes (Replaced (record row { flags = flags })) []
+
+-- WINDOW_FLAGS of a row, on the output that has its upper left corner
+abbrev pub flagged : Sizes → Row → ℕ → Verdict
+flagged sizes row flags = flagged_on sizes (output_of sizes.outputs row.place) row flags
 
 abbrev pub acks : ℕ → ℕ → List (List ℕ)
 acks minor window = if nat_le DUMP_ACK_MINOR minor then daemon_spelling window daemon.DumpAck ∷ [] else []

@@ -1,5 +1,5 @@
 -- What the user does: keys, the pointer, and commands.
-use Rattle.std.specs.Prelude.{ℕ, ◌/◌, ◌%◌, List, [], ◌∷◌, ◌++◌, filter, filter_map, find, Option, Some, None, Bool, true, false, ◌&&◌, not, ◌==◌, if◌then◌else◌, ℤ, pos}
+use Rattle.std.specs.Prelude.{ℕ, ◌/◌, ◌%◌, List, [], ◌∷◌, ◌++◌, filter, filter_map, find, Option, Some, None, Bool, true, false, ◌&&◌, not, ◌==◌, if◌then◌else◌, ℤ}
 use Rattle.std.specs.List.{list_any}
 use Rattle.gui_num.specs.declared.Rect.{Rect}
 use Rattle.gui_num.specs.declared.Point.{Point}
@@ -10,6 +10,7 @@ use Rattle.desk_laws.specs.declared.input.GIn.TheVariants as g
 use Rattle.desk_laws.specs.declared.item.Item.{Item}
 use Rattle.desk_laws.specs.declared.item.Item.TheVariants as item
 use Rattle.desk_laws.specs.Sizes.{Sizes, sizes_of}
+use Rattle.desk_laws.specs.Outputs.{is_in_output}
 use Rattle.desk_laws.specs.Ranges.{place_in_range, width_in_range, height_in_range, size_of}
 use Rattle.desk_laws.specs.Rows.{Row, id_of, row_at, is_shown, is_hidden}
 use Rattle.desk_laws.specs.Layers.{Layers, topmost, focus_of, raised, last_that}
@@ -21,10 +22,6 @@ abbrev pub raises : RowId → List Delivery → Scene → InputOutcome
 raises id deliveries scene = record { layers = raised id scene.layers; seat = scene.seat; deliveries = deliveries }
 
 -- ---- the pointer
-
--- whether the desktop has the pixel
-abbrev pub on_desktop : Setup → Point → Bool
-on_desktop setup p = has (record { x = pos 0; y = pos 0; w = setup.width; h = setup.height }) p
 
 -- the pointer at this pixel
 abbrev pub with_pointer : Point → Seat → Seat
@@ -39,10 +36,10 @@ motion (Some id) state scene = Grants id (g.Motion id.window (pointer_in id scen
 abbrev pub moves : Sizes → ℕ → Option RowId → Scene → List Delivery
 moves sizes state before scene = if same_id before (hover_now sizes scene) then motion before state scene else []
 
--- the pointer moves; outside the desktop nothing happens
+-- the pointer moves; in no output nothing happens
 abbrev pub move : Setup → Point → ℕ → Scene → InputOutcome
 move setup p state scene =
-    if on_desktop setup p
+    if is_in_output setup.outputs p
     then with_deliveries scene (with_pointer p scene.seat)
     (moves (sizes_of setup) state (hover_now (sizes_of setup) scene) (record scene { seat = with_pointer p scene.seat }))
     else ignored scene

@@ -1,6 +1,6 @@
 pub mod Causes
+pub mod Pairs
 pub mod Sizes
-pub mod Stage
 pub mod Items
 pub mod Rules
 pub mod Stream
@@ -8,12 +8,13 @@ pub mod Cutting
 pub mod Rows
 pub mod Frames
 pub mod Ranges
+pub mod Layers
+pub mod Outputs
 pub mod Override
 pub mod Tiles
 pub mod Effects
 pub mod Checks
 pub mod Grants
-pub mod Layers
 pub mod Following
 pub mod Picture
 pub mod Clipboard

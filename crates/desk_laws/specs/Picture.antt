@@ -1,7 +1,8 @@
 -- The picture, each pixel from scratch.
-use Rattle.std.specs.Prelude.{ℕ, List, map, Option, Some, None, if◌then◌else◌, slice_get, ℤ, pos, negsuc, ◌-ℤ◌, flat_map}
+use Rattle.std.specs.Prelude.{ℕ, List, map, Option, Some, None, if◌then◌else◌, slice_get, pos, ◌-ℤ◌, flat_map}
 use Rattle.gui_num.specs.declared.Point.{Point}
-use Rattle.gui_num.specs.Rects.{has}
+use Rattle.gui_num.specs.declared.Rect.{Rect}
+use Rattle.gui_num.specs.Rects.{has, nat_of}
 use Rattle.desk_laws.specs.declared.setup.Setup.{Setup}
 use Rattle.desk_laws.specs.declared.setup.GuestSetup.{GuestSetup}
 use Rattle.desk_laws.specs.Rows.{Row, content_at, span}
@@ -15,11 +16,6 @@ label_in (Some guest) = guest.colour.0
 -- the label colour of a guest
 abbrev pub label_of : Setup → ℕ → ℕ
 label_of setup guest = label_in (slice_get setup.guests guest)
-
--- a number from 0 on
-abbrev pub nat_of : ℤ → ℕ
-nat_of (pos n) = n
-nat_of (negsuc n) = 0
 
 -- the colour of a content, or grey where nothing was read
 abbrev pub colour_read : Option ℕ → ℕ
@@ -39,10 +35,14 @@ colour_by setup (Some row) p = if has row.place p then colour_read (content_unde
 abbrev pub colour_at : Setup → List Row → Layers → Point → ℕ
 colour_at setup rows layers p = colour_by setup (topmost setup.border rows layers p) p
 
--- the colours of a rectangle, row by row
+-- the pixels of a rectangle, row by row
 abbrev pub pixels : ℕ → ℕ → ℕ → ℕ → List Point
 pixels x y w h = flat_map (λ j. map (λ i. record { x = pos i; y = pos j }) (span x w)) (span y h)
 
--- the colours of all pixels, row by row from the top
-abbrev pub picture : Setup → List Row → Layers → List ℕ
-picture setup rows layers = map (colour_at setup rows layers) (pixels 0 0 setup.width setup.height)
+-- the pixels of an output, row by row from its top
+abbrev pub pixels_of : Rect → List Point
+pixels_of output = pixels (nat_of output.x) (nat_of output.y) output.w output.h
+
+-- the colours of an output's pixels, row by row from its top
+abbrev pub picture : Setup → List Row → Layers → Rect → List ℕ
+picture setup rows layers output = map (colour_at setup rows layers) (pixels_of output)

@@ -4,7 +4,8 @@ use Rattle.gui_num.specs.declared.Point.{Point}
 use Rattle.desk_laws.specs.declared.row_id.RowId.{RowId}
 use Rattle.desk_laws.specs.declared.cause.Cause.{Cause}
 use Rattle.desk_laws.specs.declared.input.GIn.{GIn}
-use Rattle.desk_laws.specs.Stage.{uses_clipboard}
+use Rattle.desk_laws.specs.declared.setup.Pair.{Pair}
+use Rattle.desk_laws.specs.Pairs.{denies}
 use Rattle.desk_laws.specs.Stream.{StreamUnit}
 use Rattle.desk_laws.specs.Rows.{Row, row_at}
 use Rattle.desk_laws.specs.Layers.{Layers, no_layers, followed}
@@ -126,25 +127,27 @@ pub data Delivery : Type 0 where
 abbrev pub with_clip : Clip → Scene → Scene
 with_clip clip scene = record scene { clip = clip }
 
--- the held bytes for a row, which are held no longer
-abbrev pub pastes : RowId → Option Content → Scene → SceneOutcome
-pastes id None scene = unchanged scene
-pastes id (Some content) scene = grant id (ClipGive id.window) content.bytes (with_clip (wiped scene.clip) scene)
+-- the held bytes for a row, which are held no longer; where the pair of guests is denied, nothing
+abbrev pub pastes : List Pair → RowId → Option Content → Scene → SceneOutcome
+pastes denied id None scene = unchanged scene
+pastes denied id (Some content) scene =
+    if denies denied content.source id.guest then unchanged scene
+    else grant id (ClipGive id.window) content.bytes (with_clip (wiped scene.clip) scene)
 
 -- the question for the clipboard of a row's guest
 abbrev pub asks : RowId → Scene → SceneOutcome
 asks id scene = grant id (ClipAsk id.window) [] (with_clip (ask id.guest scene.clip) scene)
 
--- one delivery
-abbrev pub deliver : Delivery → Scene → SceneOutcome
-deliver (Grants id input) scene = grant id input [] scene
-deliver (Asks id) scene = if uses_clipboard then asks id scene else unchanged scene
-deliver (Pastes id) scene = if uses_clipboard then pastes id scene.clip.content scene else unchanged scene
+-- one delivery, where no paste goes between these pairs of guests
+abbrev pub deliver : List Pair → Delivery → Scene → SceneOutcome
+deliver denied (Grants id input) scene = grant id input [] scene
+deliver denied (Asks id) scene = asks id scene
+deliver denied (Pastes id) scene = pastes denied id scene.clip.content scene
 
 -- deliveries in their order
-abbrev pub deliver_all : List Delivery → Scene → SceneOutcome
-deliver_all [] scene = unchanged scene
-deliver_all (d ∷ deliveries) scene = and_then (deliver d scene) (deliver_all deliveries)
+abbrev pub deliver_all : List Pair → List Delivery → Scene → SceneOutcome
+deliver_all denied [] scene = unchanged scene
+deliver_all denied (d ∷ deliveries) scene = and_then (deliver denied d scene) (deliver_all denied deliveries)
 
 -- what an event does to the layers and the seat, and what it hands on
 pub record InputOutcome : Type 0 where
@@ -165,5 +168,5 @@ abbrev pub scene_of_input : InputOutcome → Scene → Scene
 scene_of_input r scene = record scene { layers = r.layers; seat = r.seat }
 
 -- the deliveries of an outcome, carried out
-abbrev pub perform : InputOutcome → Scene → SceneOutcome
-perform r scene = deliver_all r.deliveries (scene_of_input r scene)
+abbrev pub perform : List Pair → InputOutcome → Scene → SceneOutcome
+perform denied r scene = deliver_all denied r.deliveries (scene_of_input r scene)

@@ -102,9 +102,9 @@ settled sizes scene =
     with_deliveries scene (settled_seat (focus_now scene) (hover_now sizes scene) scene.seat)
     (focus_told scene.seat.focus (focus_now scene) ++ hover_told scene.seat.hover (hover_now sizes scene) scene)
 
--- a grab whose row isn't shown ends; then focus and hover are told
+-- a grab whose row isn't shown ends; then focus and hover are told, which pastes nothing, whichever pairs are denied
 abbrev pub settle : Sizes → Scene → SceneOutcome
-settle sizes scene = perform (settled sizes (grab_checked scene)) scene
+settle sizes scene = perform [] (settled sizes (grab_checked scene)) scene
 
 -- focus and hover are those that were last told, and a row that is grabbed is shown
 pub record IsSettled (sizes : Sizes) (scene : Scene) : Type 0 where

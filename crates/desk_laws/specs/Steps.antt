@@ -1,6 +1,6 @@
 -- One step of the whole desktop: an item with its piece.
 use Rattle.std.specs.Prelude.{ℕ, ◌+◌, List, [], ◌∷◌, ◌++◌, map, length, Option, Some, None, ◌||◌}
-use Rattle.gui_wire.specs.declared.limits.TheConstants.{MAX_CLIPBOARD_SIZE}
+use Rattle.gui_num.specs.declared.Rect.{Rect}
 use Rattle.gui_wire.specs.AgentMessages as agent
 use Rattle.gui_wire.specs.AgentMessages.{AgentMessage, reading}
 use Rattle.desk_laws.specs.declared.setup.Setup.{Setup}
@@ -13,8 +13,10 @@ use Rattle.desk_laws.specs.Stream.{StreamUnit, Word, Stop, Whole, Cut, cut, is_g
 use Rattle.desk_laws.specs.Frames.{store, counted}
 use Rattle.desk_laws.specs.Effects.{Effect, effect, changed, Cleared}
 use Rattle.desk_laws.specs.Clipboard.{Clip, give, forget}
+use Rattle.desk_laws.specs.Rows.{Row}
+use Rattle.desk_laws.specs.Layers.{Layers}
 use Rattle.desk_laws.specs.Picture.{picture}
-use Rattle.desk_laws.specs.Scene.{Scene, SceneOutcome, Counts, Ended, Picture, Summary, Input, Took, Closing, Losing, and_then, with_rows, with_clip, perform, replies}
+use Rattle.desk_laws.specs.Scene.{Scene, SceneOutcome, Counts, Post, Ended, Picture, Summary, Input, Took, Closing, Losing, and_then, with_rows, with_clip, perform, replies}
 use Rattle.desk_laws.specs.State.{DeskState, StepOutcome, Session, stays, and_next, on_desk, session_of, with_session, count_item}
 use Rattle.desk_laws.specs.Settle.{settle}
 use Rattle.desk_laws.specs.Events.{route}
@@ -22,16 +24,16 @@ use Rattle.desk_laws.specs.Items.{FedItem}
 
 -- ---- one unit
 
--- the clipboard after a message
-abbrev pub clip_after : ℕ → Option AgentMessage → Clip → Clip
-clip_after guest (Some (agent.ClipData bytes)) clip = give MAX_CLIPBOARD_SIZE guest bytes clip
-clip_after guest m clip = clip
+-- the clipboard, which holds so many bytes, after a message
+abbrev pub clip_after : ℕ → ℕ → Option AgentMessage → Clip → Clip
+clip_after limit guest (Some (agent.ClipData bytes)) clip = give limit guest bytes clip
+clip_after limit guest m clip = clip
 
 -- the clipboard after a unit
-abbrev pub clip_of_unit : ℕ → StreamUnit → Clip → Clip
-clip_of_unit guest (Word word) clip = clip
-clip_of_unit guest (Stop cause) clip = clip
-clip_of_unit guest (Whole header body) clip = clip_after guest (reading header.kind body) clip
+abbrev pub clip_of_unit : ℕ → ℕ → StreamUnit → Clip → Clip
+clip_of_unit limit guest (Word word) clip = clip
+clip_of_unit limit guest (Stop cause) clip = clip
+clip_of_unit limit guest (Whole header body) clip = clip_after limit guest (reading header.kind body) clip
 
 -- how many messages a unit counts for
 abbrev pub messages_of : StreamUnit → ℕ
@@ -53,10 +55,10 @@ ends setup guest input cause desk =
     on_desk (and_then (end_told guest input cause desk.scene) (settle (sizes_of setup))) []
     (with_session guest (record (session_of guest desk) { rest = []; ended = Some cause }) desk)
 
--- the scene after a unit, with what is told
-abbrev pub unit_told : ℕ → StreamUnit → Effect → Scene → SceneOutcome
-unit_told guest unit e scene = record {
-  scene = with_clip (clip_of_unit guest unit scene.clip) (with_rows e.rows scene);
+-- the scene after a unit, with what is told; the clipboard holds so many bytes
+abbrev pub unit_told : ℕ → ℕ → StreamUnit → Effect → Scene → SceneOutcome
+unit_told limit guest unit e scene = record {
+  scene = with_clip (clip_of_unit limit guest unit scene.clip) (with_rows e.rows scene);
   posts = replies guest e.answers;
   inputs = record { guest = guest; input = Took unit } ∷ [];
 }
@@ -75,7 +77,7 @@ session_after unit e session = record session { greeted = is_greeting unit || se
 -- a unit that ended nothing
 abbrev pub went : Setup → ℕ → StreamUnit → Effect → DeskState → StepOutcome
 went setup guest unit e desk =
-    on_desk (and_then (unit_told guest unit e desk.scene) (settle (sizes_of setup))) (map (λ w. record { guest = guest; word = w }) e.readings)
+    on_desk (and_then (unit_told (sizes_of setup).clip_limit guest unit e desk.scene) (settle (sizes_of setup))) (map (λ w. record { guest = guest; word = w }) e.readings)
     (with_session guest (session_after unit e (session_of guest desk))
     (record desk { counts = counts_after unit e desk.counts }))
 
@@ -151,11 +153,15 @@ abbrev pub take_store : ℕ → ℕ → ℕ → ℕ → List ℕ → DeskState �
 take_store guest delay page offset bytes desk =
     store_of_open guest delay page offset bytes (session_of guest desk).ended desk
 
--- the picture is asked for
+-- the picture of an output
+abbrev pub picture_post : Setup → List Row → Layers → Rect → Post
+picture_post setup rows layers output = Picture output.w output.h (picture setup rows layers output)
+
+-- the pictures are asked for: one of each output, in the order of the setup
 abbrev pub snap : Setup → DeskState → StepOutcome
 snap setup desk = record {
   desk = desk;
-  posts = Picture setup.width setup.height (picture setup desk.scene.rows desk.scene.layers) ∷ [];
+  posts = map (picture_post setup desk.scene.rows desk.scene.layers) setup.outputs;
   inputs = [];
   readings = [];
 }
@@ -166,7 +172,7 @@ summary desk = record { desk = desk; posts = Summary desk.counts ∷ []; inputs 
 
 -- what the user did, settled
 abbrev pub event : Setup → Item → DeskState → StepOutcome
-event setup i desk = on_desk (and_then (perform (route setup i desk.scene) desk.scene) (settle (sizes_of setup))) [] desk
+event setup i desk = on_desk (and_then (perform setup.denied (route setup i desk.scene) desk.scene) (settle (sizes_of setup))) [] desk
 
 -- an item, its count taken
 abbrev pub step_counted : Setup → Item → List ℕ → DeskState → StepOutcome

@@ -7,6 +7,7 @@
 
 mod cause;
 mod checks;
+mod clip;
 mod ids;
 mod input;
 mod item;
@@ -18,13 +19,15 @@ mod setup;
 
 pub use cause::Cause;
 pub use checks::law_first_cause;
+pub use clip::denies;
 pub use ids::Ids;
 pub use input::GIn;
 pub use item::Item;
 pub use law::{law_of_changes, law_of_cutting, law_of_edges};
 pub use limits::{
-    DUMP_ACK_MINOR, MAX_GUESTS, MAX_PAGES, MAX_PIECE, MAX_SKIPPED_CLIPBOARD, MAX_TILES,
-    MAX_WAITING_STORES, MAX_WINDOWS, PAGE_BYTES, PAGE_WORDS, TILE_SIDE, VERSION_REPLY_MINOR,
+    DUMP_ACK_MINOR, MAX_GUESTS, MAX_OUTPUTS, MAX_PAGES, MAX_PIECE, MAX_SKIPPED_CLIPBOARD,
+    MAX_TILES, MAX_WAITING_STORES, MAX_WINDOWS, PAGE_BYTES, PAGE_WORDS, TILE_SIDE,
+    VERSION_REPLY_MINOR,
 };
 pub use row_id::RowId;
-pub use setup::{GuestSetup, Guests, Name, Setup};
+pub use setup::{GuestSetup, Guests, Name, Outputs, Pair, Pairs, Setup};

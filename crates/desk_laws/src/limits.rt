@@ -3,6 +3,9 @@
 /// The most guests of a desktop.
 pub const MAX_GUESTS: u32 = 16;
 
+/// The most outputs of a desktop.
+pub const MAX_OUTPUTS: u32 = 8;
+
 /// The most windows of a guest.
 pub const MAX_WINDOWS: u32 = 1024;
 
