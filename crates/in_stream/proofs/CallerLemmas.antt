@@ -63,8 +63,8 @@ waiting_by : (over : Bool) (n : ℕ) → IsWaiting (if over then Skipping n else
 waiting_by true n = tt
 waiting_by false n = tt
 
-waiting-is : (r : List ℕ) → IsWaiting (waiting r)
-waiting-is r = waiting_by (nat_le 12 (length r) && is_passed_over (header_at r)) (lacking r)
+waiting-is : (limit : ℕ) (r : List ℕ) → IsWaiting (waiting limit r)
+waiting-is limit r = waiting_by (nat_le 12 (length r) && is_passed_over limit (header_at r)) (lacking r)
 
 faulty-is : (h : Header) (c : Cause) → IsFaulty (faulty h c)
 faulty-is h (BadType a b) = tt
@@ -75,8 +75,8 @@ complete_by : (over : Bool) (h : Header) (b : List ℕ) → IsComplete (if over 
 complete_by true h b = tt
 complete_by false h b = tt
 
-complete-is : (h : Header) (b : List ℕ) → IsComplete (complete (stream.Whole h b))
-complete-is h b = complete_by (is_passed_over h) h b
+complete-is : (limit : ℕ) (h : Header) (b : List ℕ) → IsComplete (complete limit (stream.Whole h b))
+complete-is limit h b = complete_by (is_passed_over limit h) h b
 
 -- after the version word each unit is a message
 abbrev IsMessage : StreamUnit → Type 0
@@ -96,31 +96,31 @@ takes-message r u behind e =
 
 -- ---- no unit is whole
 
-waits_by : (a : Front) (r : List ℕ) → front_by head_fault true r ≡ a → IsWaiting (shown_of r a) → a ≡ Wait
-waits_by Wait r f w = refl
-waits_by (Fault c) r f w = absurd (waiting_not_faulty (faulty (header_at r) c) w (faulty-is (header_at r) c))
-waits_by (Takes (stream.Word w) behind) r f x = absurd (takes-message r (stream.Word w) behind f)
-waits_by (Takes (stream.Stop c) behind) r f x = absurd (takes-message r (stream.Stop c) behind f)
-waits_by (Takes (stream.Whole h b) behind) r f x = absurd (waiting_not_complete (complete (stream.Whole h b)) x (complete-is h b))
+waits_by : (limit : ℕ) (a : Front) (r : List ℕ) → front_by head_fault true r ≡ a → IsWaiting (shown_of limit r a) → a ≡ Wait
+waits_by limit Wait r f w = refl
+waits_by limit (Fault c) r f w = absurd (waiting_not_faulty (faulty (header_at r) c) w (faulty-is (header_at r) c))
+waits_by limit (Takes (stream.Word w) behind) r f x = absurd (takes-message r (stream.Word w) behind f)
+waits_by limit (Takes (stream.Stop c) behind) r f x = absurd (takes-message r (stream.Stop c) behind f)
+waits_by limit (Takes (stream.Whole h b) behind) r f x = absurd (waiting_not_complete (complete limit (stream.Whole h b)) x (complete-is limit h b))
 
-shown-waits : (r : List ℕ) → IsWaiting (shown r) → front_by head_fault true r ≡ Wait
-shown-waits r w = waits_by (front_by head_fault true r) r refl w
+shown-waits : (limit : ℕ) (r : List ℕ) → IsWaiting (shown limit r) → front_by head_fault true r ≡ Wait
+shown-waits limit r w = waits_by limit (front_by head_fault true r) r refl w
 
 -- where bytes are needed, the cut has no unit
-pub shown-need : (r : List ℕ) (more : ℕ) → shown r ≡ Need more → front_by head_fault true r ≡ Wait
-shown-need r more e = shown-waits r (subst IsWaiting (sym e) tt)
+pub shown-need : (limit : ℕ) (r : List ℕ) (more : ℕ) → shown limit r ≡ Need more → front_by head_fault true r ≡ Wait
+shown-need limit r more e = shown-waits limit r (subst IsWaiting (sym e) tt)
 
-pub shown-skipping : (r : List ℕ) (left : ℕ) → shown r ≡ Skipping left → front_by head_fault true r ≡ Wait
-shown-skipping r left e = shown-waits r (subst IsWaiting (sym e) tt)
+pub shown-skipping : (limit : ℕ) (r : List ℕ) (left : ℕ) → shown limit r ≡ Skipping left → front_by head_fault true r ≡ Wait
+shown-skipping limit r left e = shown-waits limit r (subst IsWaiting (sym e) tt)
 
 -- ---- a unit is whole
 
 -- a message, shown as the buffer shows it
-pub record ShowsMessage (r : List ℕ) (h : Header) (x : Shown) : Type 0 where
+pub record ShowsMessage (limit : ℕ) (r : List ℕ) (h : Header) (x : Shown) : Type 0 where
   pub body : List ℕ
   pub behind : List ℕ
   pub takes : front_by head_fault true r ≡ Takes (stream.Whole h body) behind
-  pub as_shown : complete (stream.Whole h body) ≡ x
+  pub as_shown : complete limit (stream.Whole h body) ≡ x
 
 abbrev header_shown : Shown → Option Header
 header_shown (Whole header body) = Some header
@@ -131,15 +131,15 @@ header_shown-complete : (over : Bool) (h : Header) (b : List ℕ) → header_sho
 header_shown-complete true h b = refl
 header_shown-complete false h b = refl
 
-message_shown : (a : Front) (r : List ℕ) (h : Header) (x : Shown) → front_by head_fault true r ≡ a → shown_of r a ≡ x → header_shown x ≡ Some h → IsComplete x → ShowsMessage r h x
-message_shown Wait r h x f e k is = absurd (waiting_not_complete (waiting r) (waiting-is r) (subst IsComplete (sym e) is))
-message_shown (Fault c) r h x f e k is = absurd (faulty_not_complete (faulty (header_at r) c) (faulty-is (header_at r) c) (subst IsComplete (sym e) is))
-message_shown (Takes (stream.Word w) behind) r h x f e k is = absurd (takes-message r (stream.Word w) behind f)
-message_shown (Takes (stream.Stop c) behind) r h x f e k is = absurd (takes-message r (stream.Stop c) behind f)
-message_shown (Takes (stream.Whole g b) behind) r h x f e k is =
-    let same : Some g ≡ Some h = sym (header_shown-complete (is_passed_over g) g b) ∙ ap header_shown e ∙ k in
+message_shown : (limit : ℕ) (a : Front) (r : List ℕ) (h : Header) (x : Shown) → front_by head_fault true r ≡ a → shown_of limit r a ≡ x → header_shown x ≡ Some h → IsComplete x → ShowsMessage limit r h x
+message_shown limit Wait r h x f e k is = absurd (waiting_not_complete (waiting limit r) (waiting-is limit r) (subst IsComplete (sym e) is))
+message_shown limit (Fault c) r h x f e k is = absurd (faulty_not_complete (faulty (header_at r) c) (faulty-is (header_at r) c) (subst IsComplete (sym e) is))
+message_shown limit (Takes (stream.Word w) behind) r h x f e k is = absurd (takes-message r (stream.Word w) behind f)
+message_shown limit (Takes (stream.Stop c) behind) r h x f e k is = absurd (takes-message r (stream.Stop c) behind f)
+message_shown limit (Takes (stream.Whole g b) behind) r h x f e k is =
+    let same : Some g ≡ Some h = sym (header_shown-complete (is_passed_over limit g) g b) ∙ ap header_shown e ∙ k in
     let s : g ≡ h = cc in
-    record { body = b; behind = behind; takes = f ∙ ap (λ y. Takes (stream.Whole y b) behind) s; as_shown = ap (λ y. complete (stream.Whole y b)) (sym s) ∙ e }
+    record { body = b; behind = behind; takes = f ∙ ap (λ y. Takes (stream.Whole y b) behind) s; as_shown = ap (λ y. complete limit (stream.Whole y b)) (sym s) ∙ e }
 
 whole_body : (over : Bool) (h : Header) (b c : List ℕ) → (if over then Skipped h else Whole h b) ≡ Whole h c → b ≡ c
 whole_body true h b c e = cc
@@ -150,26 +150,26 @@ skipped_over true h b e = refl
 skipped_over false h b e = cc
 
 -- a whole message is shown where the cut begins with it
-pub shown-whole : (r : List ℕ) (h : Header) (b : List ℕ) → shown r ≡ Whole h b → (behind : List ℕ) × (front_by head_fault true r ≡ Takes (stream.Whole h b) behind)
-shown-whole r h b e =
-    let m = message_shown (front_by head_fault true r) r h (Whole h b) refl e refl tt in
-    (m.behind, m.takes ∙ ap (λ y. Takes (stream.Whole h y) m.behind) (whole_body (is_passed_over h) h m.body b m.as_shown))
+pub shown-whole : (limit : ℕ) (r : List ℕ) (h : Header) (b : List ℕ) → shown limit r ≡ Whole h b → (behind : List ℕ) × (front_by head_fault true r ≡ Takes (stream.Whole h b) behind)
+shown-whole limit r h b e =
+    let m = message_shown limit (front_by head_fault true r) r h (Whole h b) refl e refl tt in
+    (m.behind, m.takes ∙ ap (λ y. Takes (stream.Whole h y) m.behind) (whole_body (is_passed_over limit h) h m.body b m.as_shown))
 
 -- clipboard data whose body was skipped is shown where the cut begins with its message
-pub shown-skipped : (r : List ℕ) (h : Header) → shown r ≡ Skipped h → ShowsMessage r h (Skipped h) × (is_passed_over h ≡ true)
-shown-skipped r h e =
-    let m = message_shown (front_by head_fault true r) r h (Skipped h) refl e refl tt in
-    (m, skipped_over (is_passed_over h) h m.body m.as_shown)
+pub shown-skipped : (limit : ℕ) (r : List ℕ) (h : Header) → shown limit r ≡ Skipped h → ShowsMessage limit r h (Skipped h) × (is_passed_over limit h ≡ true)
+shown-skipped limit r h e =
+    let m = message_shown limit (front_by head_fault true r) r h (Skipped h) refl e refl tt in
+    (m, skipped_over (is_passed_over limit h) h m.body m.as_shown)
 
 -- the buffer may drop what it shows
-pub has_unit-whole : (s : Received) (r : List ℕ) (h : Header) (b : List ℕ) → s.greeted ≡ true → StandsFor s r → shown r ≡ Whole h b → HasUnit s
+pub has_unit-whole : (s : Received) (r : List ℕ) (h : Header) (b : List ℕ) → s.greeted ≡ true → StandsFor s r → shown s.limit r ≡ Whole h b → HasUnit s
 has_unit-whole s r h b g stands e =
-    let m = shown-whole r h b e in
+    let m = shown-whole s.limit r h b e in
     record { rest = r; unit = stream.Whole h b; behind = m.0; stands = stands; takes = rw g m.1 }
 
-pub has_unit-skipped : (s : Received) (r : List ℕ) (h : Header) → s.greeted ≡ true → StandsFor s r → shown r ≡ Skipped h → HasUnit s
+pub has_unit-skipped : (s : Received) (r : List ℕ) (h : Header) → s.greeted ≡ true → StandsFor s r → shown s.limit r ≡ Skipped h → HasUnit s
 has_unit-skipped s r h g stands e =
-    let m = (shown-skipped r h e).0 in
+    let m = (shown-skipped s.limit r h e).0 in
     record { rest = r; unit = stream.Whole h m.body; behind = m.behind; stands = stands; takes = rw g m.takes }
 
 word_takes : (a : Front) (w : ℕ) → word_of a ≡ Some w → (behind : List ℕ) × (a ≡ Takes (stream.Word w) behind)
@@ -238,17 +238,17 @@ told_by h c (inl e) = rw e refl
 told_by h c (inr (inl e)) = rw e refl
 told_by h c (inr (inr e)) = rw e refl
 
-bad_shown : (a : Front) (r : List ℕ) (x : Shown) → front_by head_fault true r ≡ a → shown_of r a ≡ x → IsFaulty x → (c : Cause) × (a ≡ Fault c) × IsToldFor (header_at r) c x
-bad_shown Wait r x f e is = absurd (waiting_not_faulty (waiting r) (waiting-is r) (subst IsFaulty (sym e) is))
-bad_shown (Fault c) r x f e is = (c, refl, subst (IsToldFor (header_at r) c) e (told_by (header_at r) c (fault-is r c f)))
-bad_shown (Takes (stream.Word w) behind) r x f e is = absurd (takes-message r (stream.Word w) behind f)
-bad_shown (Takes (stream.Stop c) behind) r x f e is = absurd (takes-message r (stream.Stop c) behind f)
-bad_shown (Takes (stream.Whole h b) behind) r x f e is = absurd (faulty_not_complete (complete (stream.Whole h b)) (subst IsFaulty (sym e) is) (complete-is h b))
+bad_shown : (limit : ℕ) (a : Front) (r : List ℕ) (x : Shown) → front_by head_fault true r ≡ a → shown_of limit r a ≡ x → IsFaulty x → (c : Cause) × (a ≡ Fault c) × IsToldFor (header_at r) c x
+bad_shown limit Wait r x f e is = absurd (waiting_not_faulty (waiting limit r) (waiting-is limit r) (subst IsFaulty (sym e) is))
+bad_shown limit (Fault c) r x f e is = (c, refl, subst (IsToldFor (header_at r) c) e (told_by (header_at r) c (fault-is r c f)))
+bad_shown limit (Takes (stream.Word w) behind) r x f e is = absurd (takes-message r (stream.Word w) behind f)
+bad_shown limit (Takes (stream.Stop c) behind) r x f e is = absurd (takes-message r (stream.Stop c) behind f)
+bad_shown limit (Takes (stream.Whole h b) behind) r x f e is = absurd (faulty_not_complete (complete limit (stream.Whole h b)) (subst IsFaulty (sym e) is) (complete-is limit h b))
 
 -- a bad header is shown where the cut begins with its fault
-pub shown-fault : (r : List ℕ) (h : Header) (f : WireFault) → shown r ≡ Bad h f → front_by head_fault true r ≡ Fault (cause_of f)
-shown-fault r h f e = let b = bad_shown (front_by head_fault true r) r (Bad h f) refl e tt in b.1 ∙ ap Fault b.2
+pub shown-fault : (limit : ℕ) (r : List ℕ) (h : Header) (f : WireFault) → shown limit r ≡ Bad h f → front_by head_fault true r ≡ Fault (cause_of f)
+shown-fault limit r h f e = let b = bad_shown limit (front_by head_fault true r) r (Bad h f) refl e tt in b.1 ∙ ap Fault b.2
 
 -- clipboard data that is too long is shown where the cut begins with that fault
-pub shown-clip_fault : (r : List ℕ) (h : Header) → shown r ≡ ClipLong h → front_by head_fault true r ≡ Fault (ClipTooLong h.len 0)
-shown-clip_fault r h e = let b = bad_shown (front_by head_fault true r) r (ClipLong h) refl e tt in b.1 ∙ ap Fault b.2
+pub shown-clip_fault : (limit : ℕ) (r : List ℕ) (h : Header) → shown limit r ≡ ClipLong h → front_by head_fault true r ≡ Fault (ClipTooLong h.len 0)
+shown-clip_fault limit r h e = let b = bad_shown limit (front_by head_fault true r) r (ClipLong h) refl e tt in b.1 ∙ ap Fault b.2

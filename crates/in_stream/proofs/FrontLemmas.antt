@@ -86,33 +86,33 @@ clip_fault h e long =
 -- ---- what is shown
 
 -- with a header, what is shown is by that header and what is behind it
-shown-header : (r : List ℕ) → 12 ≤ length r → shown r ≡ shown_of r (front_of (head_fault (header_at r)) (header_at r) (drop 12 r))
-shown-header r long = ap (shown_of r) (front_by-whole_header head_fault r long)
+shown-header : (limit : ℕ) (r : List ℕ) → 12 ≤ length r → shown limit r ≡ shown_of limit r (front_of (head_fault (header_at r)) (header_at r) (drop 12 r))
+shown-header limit r long = ap (shown_of limit r) (front_by-whole_header head_fault r long)
 
-pub shown-short : (r : List ℕ) → length r < 12 → shown r ≡ Need (12 - length r)
-shown-short r short = grind (arith, nat_tests)
+pub shown-short : (limit : ℕ) (r : List ℕ) → length r < 12 → shown limit r ≡ Need (12 - length r)
+shown-short limit r short = grind (arith, nat_tests)
 
-bad_by : (c : Option Cause) (r xs : List ℕ) (f : WireFault) → TellsBad (header_at r) f c → shown_of r (front_of c (header_at r) xs) ≡ Bad (header_at r) f
-bad_by None r xs f t = absurd t
-bad_by (Some c) r xs f t = t
+bad_by : (limit : ℕ) (c : Option Cause) (r xs : List ℕ) (f : WireFault) → TellsBad (header_at r) f c → shown_of limit r (front_of c (header_at r) xs) ≡ Bad (header_at r) f
+bad_by limit None r xs f t = absurd t
+bad_by limit (Some c) r xs f t = t
 
-pub shown-bad : (r : List ℕ) (f : WireFault) → 12 ≤ length r → head_result (header_at r) ≡ Err f → shown r ≡ Bad (header_at r) f
-shown-bad r f long bad =
-    shown-header r long ∙ bad_by (head_fault (header_at r)) r (drop 12 r) f (tells_bad_by (rule_of (header_at r).kind) (header_at r) f refl bad)
+pub shown-bad : (limit : ℕ) (r : List ℕ) (f : WireFault) → 12 ≤ length r → head_result (header_at r) ≡ Err f → shown limit r ≡ Bad (header_at r) f
+shown-bad limit r f long bad =
+    shown-header limit r long ∙ bad_by limit (head_fault (header_at r)) r (drop 12 r) f (tells_bad_by (rule_of (header_at r).kind) (header_at r) f refl bad)
 
-pub shown-clip_long : (r : List ℕ) → 12 ≤ length r → (header_at r).kind ≡ 140 → 256000 < (header_at r).len → shown r ≡ ClipLong (header_at r)
-shown-clip_long r long e over =
-    shown-header r long ∙ ap (λ c. shown_of r (front_of c (header_at r) (drop 12 r))) (clip_fault (header_at r) e over)
+pub shown-clip_long : (limit : ℕ) (r : List ℕ) → 12 ≤ length r → (header_at r).kind ≡ 140 → 256000 < (header_at r).len → shown limit r ≡ ClipLong (header_at r)
+shown-clip_long limit r long e over =
+    shown-header limit r long ∙ ap (λ c. shown_of limit r (front_of c (header_at r) (drop 12 r))) (clip_fault (header_at r) e over)
 
 -- the message of a header without a fault
-shown-message : (r : List ℕ) → 12 ≤ length r → head_fault (header_at r) ≡ None → shown r ≡ shown_of r (front_of None (header_at r) (drop 12 r))
-shown-message r long none = shown-header r long ∙ ap (λ c. shown_of r (front_of c (header_at r) (drop 12 r))) none
+shown-message : (limit : ℕ) (r : List ℕ) → 12 ≤ length r → head_fault (header_at r) ≡ None → shown limit r ≡ shown_of limit r (front_of None (header_at r) (drop 12 r))
+shown-message limit r long none = shown-header limit r long ∙ ap (λ c. shown_of limit r (front_of c (header_at r) (drop 12 r))) none
 
-lacks_by : (h : Header) (r xs : List ℕ) → length xs < h.len → shown_of r (front_of None h xs) ≡ waiting r
-lacks_by h r xs lt = grind (arith, nat_tests)
+lacks_by : (limit : ℕ) (h : Header) (r xs : List ℕ) → length xs < h.len → shown_of limit r (front_of None h xs) ≡ waiting limit r
+lacks_by limit h r xs lt = grind (arith, nat_tests)
 
-whole_by : (h : Header) (r xs : List ℕ) → h.len ≤ length xs → shown_of r (front_of None h xs) ≡ complete (stream.Whole h (take h.len xs))
-whole_by h r xs le = grind (arith, nat_tests)
+whole_by : (limit : ℕ) (h : Header) (r xs : List ℕ) → h.len ≤ length xs → shown_of limit r (front_of None h xs) ≡ complete limit (stream.Whole h (take h.len xs))
+whole_by limit h r xs le = grind (arith, nat_tests)
 
 waiting_by : (passed_over : Bool) (r : List ℕ) (n : ℕ) → 12 ≤ length r → lacking r ≡ n
     → (if nat_le 12 (length r) && passed_over then Skipping (lacking r) else Need (lacking r)) ≡ (if passed_over then Skipping n else Need n)
@@ -123,25 +123,25 @@ lacking-message : (r : List ℕ) → 12 ≤ length r → lacking r ≡ 12 + (hea
 lacking-message r long = grind (arith, nat_tests)
 
 -- a message that isn't whole: of its body, these bytes were passed over, and these are there
-pub message_lacks : (r p b : List ℕ) (h : Header) (n : ℕ) → 12 ≤ length r → header_at r ≡ h → head_fault h ≡ None → length p ≡ n → drop 12 r ≡ p ++ b → n + length b < h.len
-    → shown r ≡ (if is_passed_over h then Skipping (h.len - (n + length b)) else Need (h.len - (n + length b)))
-message_lacks r p b h n long e none len behind lt =
+pub message_lacks : (limit : ℕ) (r p b : List ℕ) (h : Header) (n : ℕ) → 12 ≤ length r → header_at r ≡ h → head_fault h ≡ None → length p ≡ n → drop 12 r ≡ p ++ b → n + length b < h.len
+    → shown limit r ≡ (if is_passed_over limit h then Skipping (h.len - (n + length b)) else Need (h.len - (n + length b)))
+message_lacks limit r p b h n long e none len behind lt =
     let l : length (drop 12 r) ≡ n + length b = ap length behind ∙ omega (arith, length-append p b, len) in
     let k : (header_at r).len ≡ h.len = ap (λ x. x.len) e in
     let m : lacking r ≡ h.len - (n + length b) = lacking-message r long ∙ omega (arith, l, k, length-drop 12 r) in
-    shown-message r long (ap head_fault e ∙ none) ∙ lacks_by (header_at r) r (drop 12 r) (omega (arith, l, k))
-    ∙ waiting_by (is_passed_over (header_at r)) r (h.len - (n + length b)) long m
-    ∙ ap (λ x. if is_passed_over x then Skipping (h.len - (n + length b)) else Need (h.len - (n + length b))) e
+    shown-message limit r long (ap head_fault e ∙ none) ∙ lacks_by limit (header_at r) r (drop 12 r) (omega (arith, l, k))
+    ∙ waiting_by (is_passed_over limit (header_at r)) r (h.len - (n + length b)) long m
+    ∙ ap (λ x. if is_passed_over limit x then Skipping (h.len - (n + length b)) else Need (h.len - (n + length b))) e
 
 -- a whole message
-pub message_whole : (r p b : List ℕ) (h : Header) (n : ℕ) → 12 ≤ length r → header_at r ≡ h → head_fault h ≡ None → length p ≡ n → drop 12 r ≡ p ++ b → h.len ≤ n + length b
-    → (is_passed_over h ≡ false → n ≡ 0) → shown r ≡ (if is_passed_over h then Skipped h else Whole h (take h.len b))
-message_whole r p b h n long e none len behind le kept =
+pub message_whole : (limit : ℕ) (r p b : List ℕ) (h : Header) (n : ℕ) → 12 ≤ length r → header_at r ≡ h → head_fault h ≡ None → length p ≡ n → drop 12 r ≡ p ++ b → h.len ≤ n + length b
+    → (is_passed_over limit h ≡ false → n ≡ 0) → shown limit r ≡ (if is_passed_over limit h then Skipped h else Whole h (take h.len b))
+message_whole limit r p b h n long e none len behind le kept =
     let l : length (drop 12 r) ≡ n + length b = ap length behind ∙ omega (arith, length-append p b, len) in
     let k : (header_at r).len ≡ h.len = ap (λ x. x.len) e in
-    shown-message r long (ap head_fault e ∙ none) ∙ whole_by (header_at r) r (drop 12 r) (omega (arith, l, k))
-    ∙ ap (λ x. complete (stream.Whole x (take x.len (drop 12 r)))) e
-    ∙ whole_kept (is_passed_over h) h (take h.len (drop 12 r)) (take h.len b) (λ no. ap (take h.len) (behind ∙ ap (λ x. x ++ b) (empty p (len ∙ kept no))))
+    shown-message limit r long (ap head_fault e ∙ none) ∙ whole_by limit (header_at r) r (drop 12 r) (omega (arith, l, k))
+    ∙ ap (λ x. complete limit (stream.Whole x (take x.len (drop 12 r)))) e
+    ∙ whole_kept (is_passed_over limit h) h (take h.len (drop 12 r)) (take h.len b) (λ no. ap (take h.len) (behind ∙ ap (λ x. x ++ b) (empty p (len ∙ kept no))))
   where
     whole_kept : (passed_over : Bool) (h : Header) (xs ys : List ℕ) → (passed_over ≡ false → xs ≡ ys) → (if passed_over then Skipped h else Whole h xs) ≡ (if passed_over then Skipped h else Whole h ys)
     whole_kept true h xs ys same = refl
@@ -149,51 +149,51 @@ message_whole r p b h n long e none len behind le kept =
 
 -- ---- what is shown of the bytes that a buffer stands for
 
-pub front-short : (s : Received) (r : List ℕ) → IsSound s → StandsFor s r → length s.held < 12 → Need (12 - length s.held) ≡ shown r
+pub front-short : (s : Received) (r : List ℕ) → IsSound s → StandsFor s r → length s.held < 12 → Need (12 - length s.held) ≡ shown s.limit r
 front-short s r sound h short =
     let e : r ≡ s.held = stands-short s r sound h short in
     let l : length r ≡ length s.held = ap length e in
-    ap (λ n. Need (12 - n)) (sym l) ∙ sym (shown-short r (omega arith))
+    ap (λ n. Need (12 - n)) (sym l) ∙ sym (shown-short s.limit r (omega arith))
 
-pub front-bad : (s : Received) (r : List ℕ) (f : WireFault) → StandsFor s r → 12 ≤ length s.held → head_result (header_at s.held) ≡ Err f → Bad (header_at s.held) f ≡ shown r
+pub front-bad : (s : Received) (r : List ℕ) (f : WireFault) → StandsFor s r → 12 ≤ length s.held → head_result (header_at s.held) ≡ Err f → Bad (header_at s.held) f ≡ shown s.limit r
 front-bad s r f h long bad =
     let e : header_at r ≡ header_at s.held = stands-header s r long h in
-    ap (λ x. Bad x f) (sym e) ∙ sym (shown-bad r f (omega (arith, stands-length s r h)) (ap head_result e ∙ bad))
+    ap (λ x. Bad x f) (sym e) ∙ sym (shown-bad s.limit r f (omega (arith, stands-length s r h)) (ap head_result e ∙ bad))
 
-pub front-clip_long : (s : Received) (r : List ℕ) → StandsFor s r → 12 ≤ length s.held → (header_at s.held).kind ≡ 140 → 256000 < (header_at s.held).len → ClipLong (header_at s.held) ≡ shown r
+pub front-clip_long : (s : Received) (r : List ℕ) → StandsFor s r → 12 ≤ length s.held → (header_at s.held).kind ≡ 140 → 256000 < (header_at s.held).len → ClipLong (header_at s.held) ≡ shown s.limit r
 front-clip_long s r h long clip over =
     let e : header_at r ≡ header_at s.held = stands-header s r long h in
     let k : (header_at r).len ≡ (header_at s.held).len = ap (λ x. x.len) e in
-    ap ClipLong (sym e) ∙ sym (shown-clip_long r (omega (arith, stands-length s r h)) (ap (λ x. x.kind) e ∙ clip) (omega (arith, k)))
+    ap ClipLong (sym e) ∙ sym (shown-clip_long s.limit r (omega (arith, stands-length s r h)) (ap (λ x. x.kind) e ∙ clip) (omega (arith, k)))
 
 -- ---- room
 
--- a body of which nothing is passed over is short
-short_by : (x : LengthRule) (h : Header) → rule_of h.kind ≡ x → Typed h.kind x → fault_by (rule_of h.kind) h ≡ None → is_passed_over h ≡ false → h.len ≤ 393232
-short_by Unknown h e t none over = let b = rw e at none in cc
-short_by (Exactly n) h e t none over = let b = rw e at none in grind (arith, nat_tests)
-short_by Clip h e t none over = let b = rw e at none in grind (arith, nat_tests)
-short_by Dump h e t none over = let b = rw e at none in grind (arith, nat_tests)
+-- a body whose header has no fault is short, whatever is passed over
+short_by : (x : LengthRule) (h : Header) → rule_of h.kind ≡ x → Typed h.kind x → fault_by (rule_of h.kind) h ≡ None → h.len ≤ 393232
+short_by Unknown h e t none = let b = rw e at none in cc
+short_by (Exactly n) h e t none = let b = rw e at none in grind (arith, nat_tests)
+short_by Clip h e t none = let b = rw e at none in grind (arith, nat_tests)
+short_by Dump h e t none = let b = rw e at none in grind (arith, nat_tests)
 
-short_body : (h : Header) → head_fault h ≡ None → is_passed_over h ≡ false → h.len ≤ 393232
-short_body h none over = short_by (rule_of h.kind) h refl (typed h.kind) none over
+short_body : (h : Header) → head_fault h ≡ None → h.len ≤ 393232
+short_body h none = short_by (rule_of h.kind) h refl (typed h.kind) none
 
 waits-faultless : (c : Option Cause) (h : Header) (xs : List ℕ) → front_of c h xs ≡ Wait → (c ≡ None) × (length xs < h.len)
 waits-faultless (Some c) h xs e = cc
 waits-faultless None h xs e = grind (arith, nat_tests)
 
-room-passed : (over : Bool) (r : List ℕ) (len : ℕ) → 12 ≤ length r → length r < 12 + len → (over ≡ false → len ≤ 393232)
+room-passed : (over : Bool) (r : List ℕ) (len : ℕ) → 12 ≤ length r → length r < 12 + len → len ≤ 393232
     → 0 < (if over then 12 + len - length r else 0) + (longest - (if over then 12 + (length r - (12 + len)) else length r))
 room-passed true r len long lt short = omega arith
-room-passed false r len long lt short = let le : len ≤ 393232 = short refl in omega arith
+room-passed false r len long lt short = omega arith
 
 -- there is room where no unit is whole
-pub room-waits : (greeted : Bool) (r : List ℕ) → front_by head_fault greeted r ≡ Wait → 0 < room greeted r
-room-waits false r e = grind (arith, nat_tests)
-room-waits true r e = elim (lt_or_le (length r) 12) [
-  | inl short ↦ let p = passes-short true r short in rw p (omega arith)
+pub room-waits : (limit : ℕ) (greeted : Bool) (r : List ℕ) → front_by head_fault greeted r ≡ Wait → 0 < room limit greeted r
+room-waits limit false r e = grind (arith, nat_tests)
+room-waits limit true r e = elim (lt_or_le (length r) 12) [
+  | inl short ↦ let p = passes-short limit true r short in rw p (omega arith)
   | inr long ↦
       let w = waits-faultless (head_fault (header_at r)) (header_at r) (drop 12 r) (sym (front_by-whole_header head_fault r long) ∙ e) in
-      let p : passes true r ≡ is_passed_over (header_at r) = passes-long r long in
-      rw p (room-passed (is_passed_over (header_at r)) r (header_at r).len long (omega (arith, w.1, length-drop 12 r)) (short_body (header_at r) w.0))
+      let p : passes limit true r ≡ is_passed_over limit (header_at r) = passes-long limit r long in
+      rw p (room-passed (is_passed_over limit (header_at r)) r (header_at r).len long (omega (arith, w.1, length-drop 12 r)) (short_body (header_at r) w.0))
 ]

@@ -90,11 +90,11 @@ word-behind f s u r e = grind (arith, nat_tests)
 pub nothing_skipped : (s : Received) → IsSound s → s.greeted ≡ false → s.skipped ≡ 0
 nothing_skipped s sound e = elim (none_or_more s.skipped) [ inl none ↦ none | inr more ↦ let g = sound.greeted more in cc ]
 
-pub drops_word : (s : Received) → IsSound s → s.greeted ≡ false → DropsUnit s (record { greeted = true; held = drop 4 s.held; skipped = s.skipped })
+pub drops_word : (s : Received) → IsSound s → s.greeted ≡ false → DropsUnit s (record s { greeted = true; held = drop 4 s.held })
 drops_word s sound first r u b h e =
     let none : s.skipped ≡ 0 = nothing_skipped s sound first in
     let w = word-behind head_fault r u b (rw first at e) in
-    holds-stands (record { greeted = true; held = drop 4 s.held; skipped = s.skipped }) b none (w.1 ∙ ap (drop 4) (stands-holds s r none h))
+    holds-stands (record s { greeted = true; held = drop 4 s.held }) b none (w.1 ∙ ap (drop 4) (stands-holds s r none h))
 
 front_of-behind : (f : Option _) (h : _) (s : List ℕ) (u : StreamUnit) (r : List ℕ) → front_of f h s ≡ Takes u r → (h.len ≤ length s) × (r ≡ drop h.len s)
 front_of-behind (Some c) h s u r e = cc
@@ -124,12 +124,12 @@ holds_message s sound greeted unit =
     let b = bounded s sound long in
     (long, omega (arith, e, b, m.1, stands-length s unit.rest unit.stands, length-drop 12 unit.rest))
 
-pub drops_message : (s : Received) (g : Bool) → IsSound s → s.greeted ≡ true → DropsUnit s (record { greeted = g; held = drop (12 + ((header_at s.held).len - s.skipped)) s.held; skipped = 0 })
+pub drops_message : (s : Received) (g : Bool) → IsSound s → s.greeted ≡ true → DropsUnit s (record s { greeted = g; held = drop (12 + ((header_at s.held).len - s.skipped)) s.held; skipped = 0 })
 drops_message s g sound greeted r u b h e =
     let m = message-behind head_fault r u b (rw greeted at e) in
     let long : 12 ≤ length s.held = stands-long s r sound h m.0 in
     let le : length h.passed ≤ (header_at s.held).len = omega (arith, h.as_many, bounded s sound long) in
-    holds-stands (record { greeted = g; held = drop (12 + ((header_at s.held).len - s.skipped)) s.held; skipped = 0 }) b refl
+    holds-stands (record s { greeted = g; held = drop (12 + ((header_at s.held).len - s.skipped)) s.held; skipped = 0 }) b refl
     (m.2 ∙ ap (λ x. drop x.len (drop 12 r)) (stands-header s r long h) ∙ ap (drop (header_at s.held).len) (stands-behind s r long h)
     ∙ drop-passed (header_at s.held).len h.passed (drop 12 s.held) le
     ∙ ap (λ n. drop ((header_at s.held).len - n) (drop 12 s.held)) h.as_many

@@ -12,8 +12,8 @@ use Rattle.in_stream.proofs.StandsLemmas.{empty, stands-length, stands-short, st
 
 -- ---- where nothing is passed over
 
-kept_by : (greeted : Bool) (r : List ℕ) → passes greeted r ≡ false → (to_skip greeted r ≡ 0) × (kept greeted r ≡ length r)
-kept_by greeted r e = (rw e refl, rw e refl)
+kept_by : (limit : ℕ) (greeted : Bool) (r : List ℕ) → passes limit greeted r ≡ false → (to_skip limit greeted r ≡ 0) × (kept limit greeted r ≡ length r)
+kept_by limit greeted r e = (rw e refl, rw e refl)
 
 pub lt_or_le : (m n : ℕ) → (m < n) ⊎ (n ≤ m)
 lt_or_le zero zero = inr (omega arith)
@@ -21,37 +21,37 @@ lt_or_le zero (suc n) = inl (omega arith)
 lt_or_le (suc m) zero = inr (omega arith)
 lt_or_le (suc m) (suc n) = elim (lt_or_le m n) [ inl lt ↦ inl (omega arith) | inr le ↦ inr (omega arith) ]
 
-pub passes-short : (greeted : Bool) (r : List ℕ) → length r < 12 → passes greeted r ≡ false
-passes-short true r short = grind (arith, nat_tests)
-passes-short false r short = refl
+pub passes-short : (limit : ℕ) (greeted : Bool) (r : List ℕ) → length r < 12 → passes limit greeted r ≡ false
+passes-short limit true r short = grind (arith, nat_tests)
+passes-short limit false r short = refl
 
 -- nothing is passed over before the version word, nor without a header
-pub kept-early : (s : Received) (r : List ℕ) → IsSound s → StandsFor s r → (s.greeted ≡ false) ⊎ (length s.held < 12) → length s.held ≡ kept s.greeted r
+pub kept-early : (s : Received) (r : List ℕ) → IsSound s → StandsFor s r → (s.greeted ≡ false) ⊎ (length s.held < 12) → length s.held ≡ kept s.limit s.greeted r
 kept-early s r sound h (inl e) = rw e (ap length (sym (stands-holds s r (nothing_skipped s sound e) h)))
 kept-early s r sound h (inr short) =
     let e : r ≡ s.held = stands-short s r sound h short in
-    sym ((kept_by s.greeted r (passes-short s.greeted r (omega (arith, ap length e)))).1 ∙ ap length e)
+    sym ((kept_by s.limit s.greeted r (passes-short s.limit s.greeted r (omega (arith, ap length e)))).1 ∙ ap length e)
 
 -- ---- where the body at the front is passed over
 
-pub passes-long : (r : List ℕ) → 12 ≤ length r → passes true r ≡ is_passed_over (header_at r)
-passes-long r l = grind (arith, nat_tests)
+pub passes-long : (limit : ℕ) (r : List ℕ) → 12 ≤ length r → passes limit true r ≡ is_passed_over limit (header_at r)
+passes-long limit r l = grind (arith, nat_tests)
 
-passes-header : (s : Received) (r : List ℕ) → s.greeted ≡ true → 12 ≤ length s.held → StandsFor s r → passes s.greeted r ≡ is_passed_over (header_at s.held)
+passes-header : (s : Received) (r : List ℕ) → s.greeted ≡ true → 12 ≤ length s.held → StandsFor s r → passes s.limit s.greeted r ≡ is_passed_over s.limit (header_at s.held)
 passes-header s r g long h =
     let l : 12 ≤ length r = omega (arith, stands-length s r h) in
-    ap (λ x. passes x r) g ∙ passes-long r l ∙ ap is_passed_over (stands-header s r long h)
+    ap (λ x. passes s.limit x r) g ∙ passes-long s.limit r l ∙ ap (is_passed_over s.limit) (stands-header s r long h)
 
-pub to_skip-passed : (s : Received) (r : List ℕ) → s.greeted ≡ true → 12 ≤ length s.held → is_passed_over (header_at s.held) ≡ true → StandsFor s r
-    → to_skip s.greeted r ≡ 12 + (header_at s.held).len - (length s.held + s.skipped)
+pub to_skip-passed : (s : Received) (r : List ℕ) → s.greeted ≡ true → 12 ≤ length s.held → is_passed_over s.limit (header_at s.held) ≡ true → StandsFor s r
+    → to_skip s.limit s.greeted r ≡ 12 + (header_at s.held).len - (length s.held + s.skipped)
 to_skip-passed s r g long over h =
-    let p : passes s.greeted r ≡ true = passes-header s r g long h ∙ over in
+    let p : passes s.limit s.greeted r ≡ true = passes-header s r g long h ∙ over in
     rw p (ap (λ x. 12 + x.len - length r) (stands-header s r long h) ∙ ap (λ n. 12 + (header_at s.held).len - n) (stands-length s r h))
 
-pub kept-passed : (s : Received) (r : List ℕ) → s.greeted ≡ true → 12 ≤ length s.held → is_passed_over (header_at s.held) ≡ true → StandsFor s r
-    → kept s.greeted r ≡ 12 + (length s.held + s.skipped - (12 + (header_at s.held).len))
+pub kept-passed : (s : Received) (r : List ℕ) → s.greeted ≡ true → 12 ≤ length s.held → is_passed_over s.limit (header_at s.held) ≡ true → StandsFor s r
+    → kept s.limit s.greeted r ≡ 12 + (length s.held + s.skipped - (12 + (header_at s.held).len))
 kept-passed s r g long over h =
-    let p : passes s.greeted r ≡ true = passes-header s r g long h ∙ over in
+    let p : passes s.limit s.greeted r ≡ true = passes-header s r g long h ∙ over in
     rw p (ap (λ x. 12 + (length r - (12 + x.len))) (stands-header s r long h) ∙ ap (λ n. 12 + (n - (12 + (header_at s.held).len))) (stands-length s r h))
 
 -- bytes that are cut out, or that follow where nothing is left
@@ -76,7 +76,7 @@ header-without s here there long =
     header_at-append (take 12 s.held) (drop (12 + here) s.held) e
     ∙ sym (header_at-append (take 12 s.held) (drop 12 s.held) e) ∙ ap header_at (take-append-drop 12 s.held)
 
-pub sound-without : (s : Received) (here there : ℕ) → IsSound s → s.greeted ≡ true → is_passed_over (header_at s.held) ≡ true → 12 + here ≤ length s.held
+pub sound-without : (s : Received) (here there : ℕ) → IsSound s → s.greeted ≡ true → is_passed_over s.limit (header_at s.held) ≡ true → 12 + here ≤ length s.held
     → s.skipped + (here + there) ≤ (header_at s.held).len → IsSound (without s here there)
 sound-without s here there sound g over le fits =
     let e = header-without s here there (omega arith) in
@@ -86,7 +86,7 @@ sound-without s here there sound g over le fits =
       short = omega (arith, l, sound.short);
       greeted = λ _. g;
       header = λ _. omega (arith, l);
-      long = λ _. ap is_passed_over e ∙ over;
+      long = λ _. ap (is_passed_over s.limit) e ∙ over;
       bounded = λ _. omega (arith, k, fits);
     }
 
@@ -142,7 +142,7 @@ sound-more s more sound fits = record {
   short = omega (arith, length-append s.held more);
   greeted = sound.greeted;
   header = λ skips. omega (arith, length-append s.held more, sound.header skips);
-  long = λ skips. ap is_passed_over (header_at-append s.held more (sound.header skips)) ∙ sound.long skips;
+  long = λ skips. ap (is_passed_over s.limit) (header_at-append s.held more (sound.header skips)) ∙ sound.long skips;
   bounded = λ skips. omega (arith, ap (λ x. x.len) (header_at-append s.held more (sound.header skips)), sound.bounded skips);
 }
 

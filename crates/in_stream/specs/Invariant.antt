@@ -9,5 +9,5 @@ pub record IsSound (s : Received) : Type 0 where
   pub short : length s.held ≤ longest
   pub greeted : 0 < s.skipped → s.greeted ≡ true
   pub header : 0 < s.skipped → 12 ≤ length s.held
-  pub long : 0 < s.skipped → is_passed_over (header_at s.held) ≡ true
+  pub long : 0 < s.skipped → is_passed_over s.limit (header_at s.held) ≡ true
   pub bounded : 0 < s.skipped → s.skipped ≤ (header_at s.held).len

@@ -8,6 +8,8 @@ longest = 12 + MAX_DUMP_LEN
 
 -- what a receive buffer is seen as
 pub record Received : Type 0 where
+  -- the most bytes of a clipboard body that is kept
+  pub limit : ℕ
   -- whether the version word was taken
   pub greeted : Bool
   -- the bytes that are held

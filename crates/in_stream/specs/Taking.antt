@@ -6,21 +6,21 @@ use Rattle.in_stream.specs.Received.{Received, StandsFor, longest}
 use Rattle.in_stream.specs.Shown.{is_passed_over}
 
 -- whether the bytes begin with a message whose body is passed over
-abbrev pub passes : Bool → List ℕ → Bool
-passes greeted rest = greeted && (nat_le 12 (length rest) && is_passed_over (header_at rest))
+abbrev pub passes : ℕ → Bool → List ℕ → Bool
+passes limit greeted rest = greeted && (nat_le 12 (length rest) && is_passed_over limit (header_at rest))
 
 -- how many bytes that follow are passed over
-abbrev pub to_skip : Bool → List ℕ → ℕ
-to_skip greeted rest = if passes greeted rest then 12 + (header_at rest).len - length rest else 0
+abbrev pub to_skip : ℕ → Bool → List ℕ → ℕ
+to_skip limit greeted rest = if passes limit greeted rest then 12 + (header_at rest).len - length rest else 0
 
 -- how many bytes have to be held: all but a body that is passed over
-abbrev pub kept : Bool → List ℕ → ℕ
-kept greeted rest = if passes greeted rest then 12 + (length rest - (12 + (header_at rest).len)) else length rest
+abbrev pub kept : ℕ → Bool → List ℕ → ℕ
+kept limit greeted rest = if passes limit greeted rest then 12 + (length rest - (12 + (header_at rest).len)) else length rest
 
 -- how many bytes that follow can be taken: those that are passed over, and those that there is then
 -- room for
-abbrev pub room : Bool → List ℕ → ℕ
-room greeted rest = to_skip greeted rest + (longest - kept greeted rest)
+abbrev pub room : ℕ → Bool → List ℕ → ℕ
+room limit greeted rest = to_skip limit greeted rest + (longest - kept limit greeted rest)
 
 -- a rest that a buffer stands for begins with a unit
 pub record HasUnit (stream : Received) : Type 0 where

@@ -26,9 +26,11 @@ pub enum Front<'a> {
     Bad { header: Header, fault: WireFault },
     /// The header of more clipboard data than 256,000 bytes.
     ClipLong { header: Header },
-    /// Clipboard data of 65,001 to 256,000 bytes, whose body has passed and wasn't kept.
+    /// Clipboard data longer than the limit, of at most 256,000 bytes, whose body has passed and wasn't
+    /// kept.
     Skipped { header: Header },
-    /// Clipboard data of 65,001 to 256,000 bytes, of whose body this many bytes are still to come.
+    /// Clipboard data longer than the limit, of at most 256,000 bytes, of whose body this many bytes are
+    /// still to come.
     Skipping { left: usize },
     /// No whole message: the header, or the message, lacks this many bytes.
     Need { more: usize },

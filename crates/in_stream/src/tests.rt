@@ -3,6 +3,7 @@ ghost use Rattle.std.specs.Prelude.{◌≡◌, true, false, IfOk, IfSome};
 
 use super::*;
 use gui_num::NoMemory;
+use gui_wire::{MAX_CLIPBOARD_DATA, MAX_CLIPBOARD_SIZE};
 use std::alloc::Global;
 
 const VERSION: [u8; 4] = [7, 0, 1, 0];
@@ -25,6 +26,13 @@ const CLIP_HEAD: [u8; 12] = [0x8c, 0, 0, 0, 1, 0, 0, 0, 0xe9, 0xfd, 0, 0];
 
 // Clipboard data of 256,001 bytes.
 const LONG_HEAD: [u8; 12] = [0x8c, 0, 0, 0, 1, 0, 0, 0, 1, 0xe8, 3, 0];
+
+// Clipboard data of three bytes, and of four.
+const THREE: [u8; 15] = [0x8c, 0, 0, 0, 1, 0, 0, 0, 3, 0, 0, 0, 0x61, 0x62, 0x63];
+
+const FOUR: [u8; 16] = [
+    0x8c, 0, 0, 0, 1, 0, 0, 0, 4, 0, 0, 0, 0x61, 0x62, 0x63, 0x64,
+];
 
 const UNKNOWN_HEAD: [u8; 12] = [0x8a, 0, 0, 0, 1, 0, 0, 0, 4, 0, 0, 0];
 
@@ -91,11 +99,11 @@ fn takes_skipped(stream: &mut InStream, len: u32) -> bool
     }
 }
 
-// A buffer behind the version word.
-fn greeted(alloc: Global) -> Result<InStream, NoMemory>
+// A buffer behind the version word, for clipboard data up to this limit.
+fn greeted(alloc: Global, limit: u32) -> Result<InStream, NoMemory>
     ensures { IfOk result (λ s. s.greeted ≡ true) }
 {
-    let mut stream = InStream::new(alloc)?;
+    let mut stream = InStream::new(alloc, limit)?;
     stream.push(&VERSION);
     match take_word(&mut stream) {
         Some(_) => Ok(stream),
@@ -105,7 +113,7 @@ fn greeted(alloc: Global) -> Result<InStream, NoMemory>
 
 #[test]
 fn takes_bytes_one_at_a_time(rt: HostRuntime) -> Result<(), NoMemory> {
-    let mut stream = InStream::new(rt.alloc())?;
+    let mut stream = InStream::new(rt.alloc(), MAX_CLIPBOARD_SIZE)?;
     assert!(rt; push_each(&mut stream, &VERSION[..3]));
     assert_eq!(rt; stream.word(), None);
     assert!(rt; push_each(&mut stream, &VERSION[3..]));
@@ -119,7 +127,7 @@ fn takes_bytes_one_at_a_time(rt: HostRuntime) -> Result<(), NoMemory> {
 
 #[test]
 fn shows_messages_whole(rt: HostRuntime) -> Result<(), NoMemory> {
-    let mut stream = greeted(rt.alloc())?;
+    let mut stream = greeted(rt.alloc(), MAX_CLIPBOARD_SIZE)?;
     assert!(rt; push_each(&mut stream, &CREATE[..12]));
     assert!(rt; matches!(stream.front(), Front::Need { more: 24 }));
     assert!(rt; push_each(&mut stream, &CREATE[12..]));
@@ -134,7 +142,7 @@ fn shows_messages_whole(rt: HostRuntime) -> Result<(), NoMemory> {
 
 #[test]
 fn skips_a_long_clipboard_body(rt: HostRuntime) -> Result<(), NoMemory> {
-    let mut stream = greeted(rt.alloc())?;
+    let mut stream = greeted(rt.alloc(), MAX_CLIPBOARD_SIZE)?;
     assert_eq!(rt; stream.push(&CLIP_HEAD), 12);
     assert!(rt; matches!(stream.front(), Front::Skipping { left: 65001 }));
     assert!(rt; push_zeros(&mut stream, 65));
@@ -147,8 +155,21 @@ fn skips_a_long_clipboard_body(rt: HostRuntime) -> Result<(), NoMemory> {
 }
 
 #[test]
+fn keeps_clipboard_data_up_to_the_limit(rt: HostRuntime) -> Result<(), NoMemory> {
+    let mut stream = greeted(rt.alloc(), 3)?;
+    assert_eq!(rt; stream.push(&THREE), 15);
+    assert_eq!(rt; stream.push(&FOUR), 16);
+    assert!(rt; takes_message(&mut stream, 140, &THREE[12..]));
+    assert!(rt; takes_skipped(&mut stream, 4));
+    let mut stream = greeted(rt.alloc(), MAX_CLIPBOARD_DATA)?;
+    assert_eq!(rt; stream.push(&CLIP_HEAD), 12);
+    assert!(rt; matches!(stream.front(), Front::Need { more: 65001 }));
+    Ok(())
+}
+
+#[test]
 fn refuses_by_the_header_alone(rt: HostRuntime) -> Result<(), NoMemory> {
-    let mut stream = greeted(rt.alloc())?;
+    let mut stream = greeted(rt.alloc(), MAX_CLIPBOARD_SIZE)?;
     stream.push(&UNKNOWN_HEAD);
     assert!(rt;
         matches!(
@@ -159,7 +180,7 @@ fn refuses_by_the_header_alone(rt: HostRuntime) -> Result<(), NoMemory> {
             }
         )
     );
-    let mut stream = greeted(rt.alloc())?;
+    let mut stream = greeted(rt.alloc(), MAX_CLIPBOARD_SIZE)?;
     stream.push(&LONG_HEAD);
     assert!(rt; matches!(stream.front(), Front::ClipLong { .. }));
     Ok(())

@@ -10,7 +10,7 @@ use Rattle.in_stream.proofs.stream.InStream.skip.Goals.{then-not-self-via-then-n
 
 pub returns-then-not-self-clause-held : goal.returns-then-not-self-clause-held
 returns-then-not-self-clause-held c = λ r h.
-    let s : Received = record { greeted = c.self.inside.greeted; held = c.self.inside.buffer; skipped = c.self.inside.skipped } in
+    let s : Received = record { limit = c.self.inside.limit; greeted = c.self.inside.greeted; held = c.self.inside.buffer; skipped = c.self.inside.skipped } in
     let stands : StandsFor s r = rw c.self.view_is h in
     rw (← c.self.view_is) (kept-early s r c.self.invariant stands
     (elim c.then-not-self.branch [
@@ -20,10 +20,10 @@ returns-then-not-self-clause-held c = λ r h.
 
 pub invariant_of-self : goal.invariant_of-self
 invariant_of-self c =
-    let s : Received = record { greeted = c.self.inside.greeted; held = c.self.inside.buffer; skipped = c.self.inside.skipped } in
+    let s : Received = record { limit = c.self.inside.limit; greeted = c.self.inside.greeted; held = c.self.inside.buffer; skipped = c.self.inside.skipped } in
     let long : 12 ≤ length s.held = rw c.bytes-held.ensures.is at c.if-held-lt-HEADER_LEN.false in
     let e = c.header_of-header.ensures ∙ ap header_at c.bytes-held.ensures.is in
-    let over : is_passed_over (header_at s.held) ≡ true = ap is_passed_over (sym e) ∙ sym c.if-not-is_passed_over.ensures in
+    let over : is_passed_over s.limit (header_at s.held) ≡ true = ap (is_passed_over s.limit) (sym e) ∙ sym c.if-not-is_passed_over.ensures in
     let here = c.min-here.ensures ∙ ap (λ x. min (x.len - s.skipped) (length c.bytes-held.result.now - 12)) e ∙ ap (λ x. min ((header_at s.held).len - s.skipped) (length x - 12)) c.bytes-held.ensures.is in
     let there = c.min-there.ensures ∙ ap (λ x. min c.args.len (x.len - s.skipped - c.min-here.result)) e in
     let k = counted c.args.len (header_at s.held).len (length s.held) s.skipped c.min-here.result c.min-there.result long (bounded s c.self.invariant long) here there in
@@ -31,23 +31,23 @@ invariant_of-self c =
 
 pub returns-clause-count : goal.returns-clause-count
 returns-clause-count c = λ r h.
-    let s : Received = record { greeted = c.self.inside.greeted; held = c.self.inside.buffer; skipped = c.self.inside.skipped } in
+    let s : Received = record { limit = c.self.inside.limit; greeted = c.self.inside.greeted; held = c.self.inside.buffer; skipped = c.self.inside.skipped } in
     let stands : StandsFor s r = rw c.self.view_is h in
     let long : 12 ≤ length s.held = rw c.bytes-held.ensures.is at c.if-held-lt-HEADER_LEN.false in
     let e = c.header_of-header.ensures ∙ ap header_at c.bytes-held.ensures.is in
-    let over : is_passed_over (header_at s.held) ≡ true = ap is_passed_over (sym e) ∙ sym c.if-not-is_passed_over.ensures in
+    let over : is_passed_over s.limit (header_at s.held) ≡ true = ap (is_passed_over s.limit) (sym e) ∙ sym c.if-not-is_passed_over.ensures in
     let here = c.min-here.ensures ∙ ap (λ x. min (x.len - s.skipped) (length c.bytes-held.result.now - 12)) e ∙ ap (λ x. min ((header_at s.held).len - s.skipped) (length x - 12)) c.bytes-held.ensures.is in
     let there = c.min-there.ensures ∙ ap (λ x. min c.args.len (x.len - s.skipped - c.min-here.result)) e in
     let k = counted c.args.len (header_at s.held).len (length s.held) s.skipped c.min-here.result c.min-there.result long (bounded s c.self.invariant long) here there in
-    k.there_is ∙ ap (min c.args.len) (sym (to_skip-passed s r c.if-not-self.false long over stands)) ∙ ap (λ x. min c.args.len (to_skip x.greeted r)) c.self.view_is
+    k.there_is ∙ ap (min c.args.len) (sym (to_skip-passed s r c.if-not-self.false long over stands)) ∙ ap (λ x. min c.args.len (to_skip x.limit x.greeted r)) c.self.view_is
 
 pub returns-clause-stands : goal.returns-clause-stands
 returns-clause-stands c = λ r more h m.
-    let s : Received = record { greeted = c.self.inside.greeted; held = c.self.inside.buffer; skipped = c.self.inside.skipped } in
+    let s : Received = record { limit = c.self.inside.limit; greeted = c.self.inside.greeted; held = c.self.inside.buffer; skipped = c.self.inside.skipped } in
     let stands : StandsFor s r = rw c.self.view_is h in
     let long : 12 ≤ length s.held = rw c.bytes-held.ensures.is at c.if-held-lt-HEADER_LEN.false in
     let e = c.header_of-header.ensures ∙ ap header_at c.bytes-held.ensures.is in
-    let over : is_passed_over (header_at s.held) ≡ true = ap is_passed_over (sym e) ∙ sym c.if-not-is_passed_over.ensures in
+    let over : is_passed_over s.limit (header_at s.held) ≡ true = ap (is_passed_over s.limit) (sym e) ∙ sym c.if-not-is_passed_over.ensures in
     let here = c.min-here.ensures ∙ ap (λ x. min (x.len - s.skipped) (length c.bytes-held.result.now - 12)) e ∙ ap (λ x. min ((header_at s.held).len - s.skipped) (length x - 12)) c.bytes-held.ensures.is in
     let there = c.min-there.ensures ∙ ap (λ x. min c.args.len (x.len - s.skipped - c.min-here.result)) e in
     let k = counted c.args.len (header_at s.held).len (length s.held) s.skipped c.min-here.result c.min-there.result long (bounded s c.self.invariant long) here there in
@@ -55,13 +55,13 @@ returns-clause-stands c = λ r more h m.
 
 pub returns-clause-held : goal.returns-clause-held
 returns-clause-held c = λ r h.
-    let s : Received = record { greeted = c.self.inside.greeted; held = c.self.inside.buffer; skipped = c.self.inside.skipped } in
+    let s : Received = record { limit = c.self.inside.limit; greeted = c.self.inside.greeted; held = c.self.inside.buffer; skipped = c.self.inside.skipped } in
     let stands : StandsFor s r = rw c.self.view_is h in
     let long : 12 ≤ length s.held = rw c.bytes-held.ensures.is at c.if-held-lt-HEADER_LEN.false in
     let e = c.header_of-header.ensures ∙ ap header_at c.bytes-held.ensures.is in
-    let over : is_passed_over (header_at s.held) ≡ true = ap is_passed_over (sym e) ∙ sym c.if-not-is_passed_over.ensures in
+    let over : is_passed_over s.limit (header_at s.held) ≡ true = ap (is_passed_over s.limit) (sym e) ∙ sym c.if-not-is_passed_over.ensures in
     let here = c.min-here.ensures ∙ ap (λ x. min (x.len - s.skipped) (length c.bytes-held.result.now - 12)) e ∙ ap (λ x. min ((header_at s.held).len - s.skipped) (length x - 12)) c.bytes-held.ensures.is in
     let there = c.min-there.ensures ∙ ap (λ x. min c.args.len (x.len - s.skipped - c.min-here.result)) e in
     let k = counted c.args.len (header_at s.held).len (length s.held) s.skipped c.min-here.result c.min-there.result long (bounded s c.self.invariant long) here there in
     ap length c.cut.ensures ∙ length-without s c.min-here.result c.min-there.result k.inside ∙ k.left_is
-    ∙ sym (kept-passed s r c.if-not-self.false long over stands) ∙ ap (λ x. kept x.greeted r) c.self.view_is
+    ∙ sym (kept-passed s r c.if-not-self.false long over stands) ∙ ap (λ x. kept x.limit x.greeted r) c.self.view_is
