@@ -6,14 +6,15 @@ use Rattle.std.proofs.lemmas.Bool.Decides.{nat_tests}
 use Rattle.std.proofs.lemmas.List.Elements.{All-nil, All-cons, All-append, All-weaker}
 use Rattle.gui_wire.specs.declared.limits.TheConstants.{WINDOW_FLAG_MINIMIZE}
 use Rattle.desk_laws.specs.declared.row_id.RowId.{RowId}
+use Rattle.desk_laws.specs.declared.setup.Pair.{Pair}
 use Rattle.desk_laws.specs.declared.item.Item.{Item}
 use Rattle.desk_laws.specs.declared.input.GIn.{GIn}
 use Rattle.desk_laws.specs.declared.input.GIn.TheVariants as g
-use Rattle.desk_laws.specs.Stage.{uses_clipboard}
 use Rattle.desk_laws.specs.Sizes.{Sizes}
 use Rattle.desk_laws.specs.Rows.{Row, row_at, row_with, mine, placed_at}
 use Rattle.desk_laws.specs.Effects.{flags_without, replaced_in, changed}
 use Rattle.desk_laws.specs.Grants.{window_of, granted_by, granted_to, grant_change}
+use Rattle.desk_laws.specs.Pairs.{denies}
 use Rattle.desk_laws.specs.Clipboard.{Content, ask, wiped}
 use Rattle.desk_laws.specs.Scene.{Scene, Input, Took, Given, Closing, Losing, GuestInput, Delivery, Grants, Asks, Pastes, InputOutcome, unchanged, grant, grant_where, with_clip, pastes, deliver, deliver_all, scene_of_input, perform, asks}
 use Rattle.desk_laws.specs.Settle.{focus_now, hover_now, same_id, settle, settled, grab_checked, focusing, keymap, crossing, focus_told, hover_told}
@@ -97,18 +98,18 @@ given-grant P id input paste scene fits = by_row (is_some (row_at id scene.rows)
 abbrev IsNamed : RowId → GIn → Type 0
 IsNamed id input = (window : ℕ) → window_of input ≡ Some window → id.window ≡ window
 
-module _ (i : Item) (at : Scene) where
+module _ (denied : List Pair) (i : Item) (at : Scene) where
   -- inputs alone, each with what it may carry
   abbrev pub FitsGrants : List Delivery → Type 0
   FitsGrants [] = Unit {0}
-  FitsGrants (Grants id input ∷ ds) = IsCarried i at id.guest input × IsBeside at input [] × IsNamed id input × FitsGrants ds
+  FitsGrants (Grants id input ∷ ds) = IsCarried i at id.guest input × IsBeside denied at id.guest input [] × IsNamed id input × FitsGrants ds
   FitsGrants (Asks id ∷ ds) = ⊥
   FitsGrants (Pastes id ∷ ds) = ⊥
 
   -- one delivery, or none
   abbrev pub FitsOne : List Delivery → Type 0
   FitsOne [] = Unit {0}
-  FitsOne (Grants id input ∷ []) = IsCarried i at id.guest input × IsBeside at input [] × IsNamed id input
+  FitsOne (Grants id input ∷ []) = IsCarried i at id.guest input × IsBeside denied at id.guest input [] × IsNamed id input
   FitsOne (Asks id ∷ []) = IsChordFor i 54 at id
   FitsOne (Pastes id ∷ []) = IsChordFor i 55 at id
   FitsOne (d ∷ e ∷ ds) = ⊥
@@ -125,68 +126,66 @@ module _ (i : Item) (at : Scene) where
   fits-append (Asks id ∷ ds) es one two = absurd one
   fits-append (Pastes id ∷ ds) es one two = absurd one
 
-  -- the inputs of such a list, from any scene with the same rows
-  given-grants : (ds : List Delivery) (scene : Scene) → HaveSameIds at.rows scene.rows → FitsGrants ds
-      → AllGiven (IsGrantedAt i at) (deliver_all ds scene).inputs
-  given-grants [] scene same fits = given-none (IsGrantedAt i at)
-  given-grants (Grants id input ∷ ds) scene same fits =
-      given-append (IsGrantedAt i at) (grant id input [] scene).inputs (deliver_all ds (grant id input [] scene).scene).inputs
-      (given-grant (IsGrantedAt i at) id input [] scene
+  -- the inputs of such a list, from any scene with the same rows; it pastes nothing, whichever pairs are denied
+  given-grants : (pairs : List Pair) (ds : List Delivery) (scene : Scene) → HaveSameIds at.rows scene.rows → FitsGrants ds
+      → AllGiven (IsGrantedAt denied i at) (deliver_all pairs ds scene).inputs
+  given-grants pairs [] scene same fits = given-none (IsGrantedAt denied i at)
+  given-grants pairs (Grants id input ∷ ds) scene same fits =
+      given-append (IsGrantedAt denied i at) (grant id input [] scene).inputs (deliver_all pairs ds (grant id input [] scene).scene).inputs
+      (given-grant (IsGrantedAt denied i at) id input [] scene
       (λ here. record { there = fits-there id input fits.2 (sym (same id) ∙ here); carried = fits.0; beside = fits.1 }))
-      (given-grants ds (grant id input [] scene).scene (λ other. ids-grant id input [] scene other ∙ same other) fits.3)
-  given-grants (Asks id ∷ ds) scene same fits = absurd fits
-  given-grants (Pastes id ∷ ds) scene same fits = absurd fits
+      (given-grants pairs ds (grant id input [] scene).scene (λ other. ids-grant id input [] scene other ∙ same other) fits.3)
+  given-grants pairs (Asks id ∷ ds) scene same fits = absurd fits
+  given-grants pairs (Pastes id ∷ ds) scene same fits = absurd fits
 
-  -- the question for the clipboard, where there is a clipboard
-  given-asks : (b : Bool) (id : RowId) (scene : Scene) → scene.rows ≡ at.rows → IsChordFor i 54 at id
-      → AllGiven (IsGrantedAt i at) (if b then asks id scene else unchanged scene).inputs
-  given-asks false id scene rows fits = given-none (IsGrantedAt i at)
-  given-asks true id scene rows fits =
-      given-grant (IsGrantedAt i at) id (g.ClipAsk id.window) [] (with_clip (ask id.guest scene.clip) scene)
+  -- the question for the clipboard
+  given-asks : (id : RowId) (scene : Scene) → scene.rows ≡ at.rows → IsChordFor i 54 at id
+      → AllGiven (IsGrantedAt denied i at) (asks id scene).inputs
+  given-asks id scene rows fits =
+      given-grant (IsGrantedAt denied i at) id (g.ClipAsk id.window) [] (with_clip (ask id.guest scene.clip) scene)
       (λ here. record {
         there = fits-there id (g.ClipAsk id.window) (λ window e. cc) (ap (λ rs. is_some (row_at id rs)) (sym rows) ∙ here);
         carried = fits;
         beside = refl;
       })
 
-  -- what is held is pasted, if anything is
-  given-content : (id : RowId) (content : Option Content) (scene : Scene) → at.clip.content ≡ content → scene.rows ≡ at.rows → IsChordFor i 55 at id
-      → AllGiven (IsGrantedAt i at) (pastes id content scene).inputs
-  given-content id None scene held rows fits = given-none (IsGrantedAt i at)
-  given-content id (Some content) scene held rows fits =
-      given-grant (IsGrantedAt i at) id (g.ClipGive id.window) content.bytes (with_clip (wiped scene.clip) scene)
-      (λ here. record {
-        there = fits-there id (g.ClipGive id.window) (λ window e. cc) (ap (λ rs. is_some (row_at id rs)) (sym rows) ∙ here);
-        carried = fits;
-        beside = (content, held, refl);
-      })
-
-  -- a paste, where there is a clipboard
-  given-pastes : (b : Bool) (id : RowId) (scene : Scene) → at.clip.content ≡ scene.clip.content → scene.rows ≡ at.rows → IsChordFor i 55 at id
-      → AllGiven (IsGrantedAt i at) (if b then pastes id scene.clip.content scene else unchanged scene).inputs
-  given-pastes false id scene held rows fits = given-none (IsGrantedAt i at)
-  given-pastes true id scene held rows fits = given-content id scene.clip.content scene held rows fits
+  -- what is held is pasted, if anything is and its pair isn't denied
+  given-pastes : (id : RowId) (content : Option Content) (scene : Scene) → at.clip.content ≡ content → scene.rows ≡ at.rows → IsChordFor i 55 at id
+      → AllGiven (IsGrantedAt denied i at) (pastes denied id content scene).inputs
+  given-pastes id None scene held rows fits = given-none (IsGrantedAt denied i at)
+  given-pastes id (Some content) scene held rows fits = by_pair (denies denied content.source id.guest) refl
+    where
+      by_pair : (b : Bool) → denies denied content.source id.guest ≡ b → AllGiven (IsGrantedAt denied i at)
+          (if b then unchanged scene else grant id (g.ClipGive id.window) content.bytes (with_clip (wiped scene.clip) scene)).inputs
+      by_pair true e = given-none (IsGrantedAt denied i at)
+      by_pair false e =
+          given-grant (IsGrantedAt denied i at) id (g.ClipGive id.window) content.bytes (with_clip (wiped scene.clip) scene)
+          (λ here. record {
+            there = fits-there id (g.ClipGive id.window) (λ window e. cc) (ap (λ rs. is_some (row_at id rs)) (sym rows) ∙ here);
+            carried = fits;
+            beside = (content, held, refl, e);
+          })
 
   -- what an outcome grants with one delivery or none
-  pub given-one : (r : InputOutcome) → FitsOne r.deliveries → AllGiven (IsGrantedAt i at) (perform r at).inputs
+  pub given-one : (r : InputOutcome) → FitsOne r.deliveries → AllGiven (IsGrantedAt denied i at) (perform denied r at).inputs
   given-one r fits = by_list r.deliveries fits
     where
       after : Scene
       after = scene_of_input r at
 
-      nothing : AllGiven (IsGrantedAt i at) []
-      nothing = given-none (IsGrantedAt i at)
+      nothing : AllGiven (IsGrantedAt denied i at) []
+      nothing = given-none (IsGrantedAt denied i at)
 
-      by_list : (ds : List Delivery) → FitsOne ds → AllGiven (IsGrantedAt i at) (deliver_all ds after).inputs
+      by_list : (ds : List Delivery) → FitsOne ds → AllGiven (IsGrantedAt denied i at) (deliver_all denied ds after).inputs
       by_list [] fits = nothing
       by_list (Grants id input ∷ []) fits =
-          given-append (IsGrantedAt i at) (grant id input [] after).inputs []
-          (given-grant (IsGrantedAt i at) id input [] after
+          given-append (IsGrantedAt denied i at) (grant id input [] after).inputs []
+          (given-grant (IsGrantedAt denied i at) id input [] after
           (λ here. record { there = fits-there id input fits.2 here; carried = fits.0; beside = fits.1 })) nothing
       by_list (Asks id ∷ []) fits =
-          given-append (IsGrantedAt i at) (deliver (Asks id) after).inputs [] (given-asks uses_clipboard id after refl fits) nothing
+          given-append (IsGrantedAt denied i at) (asks id after).inputs [] (given-asks id after refl fits) nothing
       by_list (Pastes id ∷ []) fits =
-          given-append (IsGrantedAt i at) (deliver (Pastes id) after).inputs [] (given-pastes uses_clipboard id after refl refl fits) nothing
+          given-append (IsGrantedAt denied i at) (deliver denied (Pastes id) after).inputs [] (given-pastes id after.clip.content after refl refl fits) nothing
       by_list (d ∷ e ∷ ds) fits = absurd fits
 
   -- ---- settle
@@ -229,6 +228,6 @@ module _ (i : Item) (at : Scene) where
           (fits-crossing false at.seat.hover) (fits-crossing true (hover_now sizes (grab_checked at)))
 
   -- what settle grants
-  pub given-settle : (sizes : Sizes) → AllGiven (IsGrantedAt i at) (settle sizes at).inputs
+  pub given-settle : (sizes : Sizes) → AllGiven (IsGrantedAt denied i at) (settle sizes at).inputs
   given-settle sizes =
-      given-grants (settled sizes (grab_checked at)).deliveries (scene_of_input (settled sizes (grab_checked at)) at) (λ id. refl) (fits-settled sizes)
+      given-grants [] (settled sizes (grab_checked at)).deliveries (scene_of_input (settled sizes (grab_checked at)) at) (λ id. refl) (fits-settled sizes)

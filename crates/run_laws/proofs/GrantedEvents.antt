@@ -12,11 +12,12 @@ use Rattle.desk_laws.specs.declared.item.Item.{Item}
 use Rattle.desk_laws.specs.declared.item.Item.TheVariants as item
 use Rattle.desk_laws.specs.declared.input.GIn.TheVariants as g
 use Rattle.desk_laws.specs.Sizes.{sizes_of}
+use Rattle.desk_laws.specs.Outputs.{is_in_output}
 use Rattle.desk_laws.specs.Rows.{Row, id_of, row_at, is_row, is_hidden, is_shown}
 use Rattle.desk_laws.specs.Layers.{or_else, last_that, focus_of, topmost}
 use Rattle.desk_laws.specs.Scene.{Scene, Grab, Grants, Asks, Pastes, InputOutcome, with_deliveries, ignored}
 use Rattle.desk_laws.specs.Settle.{focus_now, hover_now, same_id}
-use Rattle.desk_laws.specs.Events.{moves, released, with_pressed_keys, grab_left, route, is_chord, is_among, with_pointer, move_to, size_to, on_desktop, motion, button, press_row, press_owner, press_by, release_by, key_by, key_to, plain_key, close_by, place_by, raise_by, restore_by, listed}
+use Rattle.desk_laws.specs.Events.{moves, released, with_pressed_keys, grab_left, route, is_chord, is_among, with_pointer, move_to, size_to, motion, button, press_row, press_owner, press_by, release_by, key_by, key_to, plain_key, close_by, place_by, raise_by, restore_by, listed}
 use Rattle.run_laws.specs.GrantedContent.{row_of, pointed_at, IsPlaceBy, IsChordFor}
 use Rattle.run_laws.proofs.GrantLemmas.{FitsOne}
 
@@ -39,7 +40,7 @@ found-at id rows row e =
     ∙ e
 
 -- the last row of a list of ids that passes a test stands where its own id is looked for
-found-last : (test : Row → Bool) (ids : List RowId) (rows : List Row) (row : Row) → last_that test (filter_map (λ id. row_at id rows) ids) ≡ Some row
+pub found-last : (test : Row → Bool) (ids : List RowId) (rows : List Row) (row : Row) → last_that test (filter_map (λ id. row_at id rows) ids) ≡ Some row
     → row_at (id_of row) rows ≡ Some row
 found-last test [] rows row e = cc
 found-last test (id ∷ ids) rows row e = by_found (row_at id rows) refl e (found-last test ids rows row)
@@ -62,7 +63,7 @@ found-last test (id ∷ ids) rows row e = by_found (row_at id rows) refl e (foun
 module _ (setup : Setup) (at : Scene) where
   -- what an outcome hands on carries no more than it may
   abbrev Fits : Item → InputOutcome → Type 0
-  Fits i r = FitsOne i at r.deliveries
+  Fits i r = FitsOne setup.denied i at r.deliveries
 
   -- a key with the focus on a row
   fits-key_to : (id : RowId) (down : Bool) (code state : ℕ) → focus_now at ≡ Some id → Fits (item.Key down code state) (key_to id down code state at)
@@ -95,29 +96,29 @@ module _ (setup : Setup) (at : Scene) where
   fits-key_by None down code state focus = tt
   fits-key_by (Some id) down code state focus = fits-key_to id down code state focus
 
-  -- the pointer moved, to a pixel of the desktop or not
+  -- the pointer moved, to a pixel of an output or not
   fits-move : (x y : ℤ) (state : ℕ) (b : Bool) → Fits (item.Move x y state)
       (if b then with_deliveries at (with_pointer (record { x = x; y = y }) at.seat) (moves (sizes_of setup) state (hover_now (sizes_of setup) at) (pointed_at x y at)) else ignored at)
   fits-move x y state false = tt
   fits-move x y state true = by_same (same_id (hover_now (sizes_of setup) at) (hover_now (sizes_of setup) (pointed_at x y at)))
     where
-      by_before : (o : Option RowId) → FitsOne (item.Move x y state) at (motion o state (pointed_at x y at))
+      by_before : (o : Option RowId) → FitsOne setup.denied (item.Move x y state) at (motion o state (pointed_at x y at))
       by_before None = tt
       by_before (Some id) = ((x, y, refl, record { x_is = refl; y_is = refl }), refl, λ window e. cc)
 
-      by_same : (b : Bool) → FitsOne (item.Move x y state) at (if b then motion (hover_now (sizes_of setup) at) state (pointed_at x y at) else [])
+      by_same : (b : Bool) → FitsOne setup.denied (item.Move x y state) at (if b then motion (hover_now (sizes_of setup) at) state (pointed_at x y at) else [])
       by_same true = by_before (hover_now (sizes_of setup) at)
       by_same false = tt
 
   -- a button for a row
-  fits-button : (id : RowId) (down : Bool) (code state : ℕ) → FitsOne (item.Press down code state) at (button id down code state at)
+  fits-button : (id : RowId) (down : Bool) (code state : ℕ) → FitsOne setup.denied (item.Press down code state) at (button id down code state at)
   fits-button id down code state = ((refl, record { x_is = refl; y_is = refl }), refl, λ window e. cc)
 
   -- a press on a row
   fits-press_row : (row : Row) (p : Point) (code state : ℕ) → Fits (item.Press true code state) (press_row row p code state at)
   fits-press_row row p code state = by_has (has row.place p)
     where
-      by_has : (b : Bool) → FitsOne (item.Press true code state) at (if b then button (id_of row) true code state at else [])
+      by_has : (b : Bool) → FitsOne setup.denied (item.Press true code state) at (if b then button (id_of row) true code state at else [])
       by_has true = fits-button (id_of row) true code state
       by_has false = tt
 
@@ -166,7 +167,7 @@ module _ (setup : Setup) (at : Scene) where
   -- each event of the user hands on one input at most, which carries no more than it may
   pub fits-route : (i : Item) → Fits i (route setup i at)
   fits-route (item.Key down code state) = fits-key_by (focus_now at) down code state refl
-  fits-route (item.Move x y state) = fits-move x y state (on_desktop setup (record { x = x; y = y }))
+  fits-route (item.Move x y state) = fits-move x y state (is_in_output setup.outputs (record { x = x; y = y }))
   fits-route (item.Press true code state) = fits-press_by at.seat.pointer at.seat.grab code state
   fits-route (item.Press false code state) = fits-release_by at.seat.grab code state
   fits-route item.Close = fits-close (focus_now at) refl

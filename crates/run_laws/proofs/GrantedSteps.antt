@@ -3,6 +3,7 @@ use Rattle.std.proofs.Common.{ℕ, zero, suc, List, [], ◌∷◌, ◌++◌, Opt
 use Rattle.std.specs.List.{All, Any}
 use Rattle.std.proofs.lemmas.List.Elements.{All-nil, All-cons}
 use Rattle.desk_laws.specs.declared.setup.Setup.{Setup}
+use Rattle.desk_laws.specs.declared.setup.Pair.{Pair}
 use Rattle.desk_laws.specs.declared.cause.Cause.{Cause}
 use Rattle.desk_laws.specs.declared.cause.Cause.TheVariants.{StreamEnded, LinkFailed}
 use Rattle.desk_laws.specs.declared.item.Item.{Item}
@@ -44,98 +45,98 @@ any-right P (x ∷ xs) ys a = any-tail P x (xs ++ ys) (any-right P xs ys a)
 -- ---- the inputs of a step
 
 -- this input is granted at one of these moments
-abbrev IsAmong : Item → List Scene → ℕ → GIn → List ℕ → Type 0
-IsAmong i scenes guest input paste = Any (λ scene. IsGrantedAt i scene guest input paste) scenes
+abbrev IsAmong : List Pair → Item → List Scene → ℕ → GIn → List ℕ → Type 0
+IsAmong denied i scenes guest input paste = Any (λ scene. IsGrantedAt denied i scene guest input paste) scenes
 
 -- each of these inputs is
-abbrev GivenAmong : Item → List Scene → List GuestInput → Type 0
-GivenAmong i scenes told = All (IsGrantedAmong i scenes) told
+abbrev GivenAmong : List Pair → Item → List Scene → List GuestInput → Type 0
+GivenAmong denied i scenes told = All (IsGrantedAmong denied i scenes) told
 
 -- granted at the first moment
-given-here : (i : Item) (at : Scene) (scenes : List Scene) (told : List GuestInput) → AllGiven (IsGrantedAt i at) told → GivenAmong i (at ∷ scenes) told
-given-here i at scenes told all =
-    given-weaker (IsGrantedAt i at) (IsAmong i (at ∷ scenes))
-    (λ guest input paste p. any-head (λ scene. IsGrantedAt i scene guest input paste) at scenes p) told all
+given-here : (denied : List Pair) (i : Item) (at : Scene) (scenes : List Scene) (told : List GuestInput) → AllGiven (IsGrantedAt denied i at) told → GivenAmong denied i (at ∷ scenes) told
+given-here denied i at scenes told all =
+    given-weaker (IsGrantedAt denied i at) (IsAmong denied i (at ∷ scenes))
+    (λ guest input paste p. any-head (λ scene. IsGrantedAt denied i scene guest input paste) at scenes p) told all
 
 -- with more moments behind
-given-left : (i : Item) (xs ys : List Scene) (told : List GuestInput) → GivenAmong i xs told → GivenAmong i (xs ++ ys) told
-given-left i xs ys told all =
-    given-weaker (IsAmong i xs) (IsAmong i (xs ++ ys))
-    (λ guest input paste p. any-left (λ scene. IsGrantedAt i scene guest input paste) xs ys p) told all
+given-left : (denied : List Pair) (i : Item) (xs ys : List Scene) (told : List GuestInput) → GivenAmong denied i xs told → GivenAmong denied i (xs ++ ys) told
+given-left denied i xs ys told all =
+    given-weaker (IsAmong denied i xs) (IsAmong denied i (xs ++ ys))
+    (λ guest input paste p. any-left (λ scene. IsGrantedAt denied i scene guest input paste) xs ys p) told all
 
 -- with more moments before
-given-right : (i : Item) (xs ys : List Scene) (told : List GuestInput) → GivenAmong i ys told → GivenAmong i (xs ++ ys) told
-given-right i xs ys told all =
-    given-weaker (IsAmong i ys) (IsAmong i (xs ++ ys))
-    (λ guest input paste p. any-right (λ scene. IsGrantedAt i scene guest input paste) xs ys p) told all
+given-right : (denied : List Pair) (i : Item) (xs ys : List Scene) (told : List GuestInput) → GivenAmong denied i ys told → GivenAmong denied i (xs ++ ys) told
+given-right denied i xs ys told all =
+    given-weaker (IsAmong denied i ys) (IsAmong denied i (xs ++ ys))
+    (λ guest input paste p. any-right (λ scene. IsGrantedAt denied i scene guest input paste) xs ys p) told all
 
 -- nothing is granted
-given-nothing : (i : Item) (scenes : List Scene) → GivenAmong i scenes []
-given-nothing i scenes = All-nil (IsGrantedAmong i scenes)
+given-nothing : (denied : List Pair) (i : Item) (scenes : List Scene) → GivenAmong denied i scenes []
+given-nothing denied i scenes = All-nil (IsGrantedAmong denied i scenes)
 
 -- an input that isn't a granted one, and what settle grants behind it
-given-told : (i : Item) (guest : ℕ) (input : Input) → ((P : ℕ → GIn → List ℕ → Type 0) → IfGiven P guest input) → (sizes : Sizes) (at : Scene)
-    → GivenAmong i (at ∷ []) (record { guest = guest; input = input } ∷ (settle sizes at).inputs)
-given-told i guest input plain sizes at =
-    All-cons (IsGrantedAmong i (at ∷ [])) (record { guest = guest; input = input }) (settle sizes at).inputs
-    (plain (IsAmong i (at ∷ [])))
-    (given-here i at [] (settle sizes at).inputs (given-settle i at sizes))
+given-told : (denied : List Pair) (i : Item) (guest : ℕ) (input : Input) → ((P : ℕ → GIn → List ℕ → Type 0) → IfGiven P guest input) → (sizes : Sizes) (at : Scene)
+    → GivenAmong denied i (at ∷ []) (record { guest = guest; input = input } ∷ (settle sizes at).inputs)
+given-told denied i guest input plain sizes at =
+    All-cons (IsGrantedAmong denied i (at ∷ [])) (record { guest = guest; input = input }) (settle sizes at).inputs
+    (plain (IsAmong denied i (at ∷ [])))
+    (given-here denied i at [] (settle sizes at).inputs (given-settle denied i at sizes))
 
 -- an event of the user
 given-event : (setup : Setup) (i : Item) (desk : DeskState)
-    → GivenAmong i (desk.scene ∷ (perform (route setup i desk.scene) desk.scene).scene ∷ []) (event setup i desk).inputs
+    → GivenAmong setup.denied i (desk.scene ∷ (perform setup.denied (route setup i desk.scene) desk.scene).scene ∷ []) (event setup i desk).inputs
 given-event setup i desk =
-    let acted : SceneOutcome = perform (route setup i desk.scene) desk.scene in
-    given-append (IsAmong i (desk.scene ∷ acted.scene ∷ [])) acted.inputs (settle (sizes_of setup) acted.scene).inputs
-    (given-here i desk.scene (acted.scene ∷ []) acted.inputs (given-one i desk.scene (route setup i desk.scene) (fits-route setup desk.scene i)))
-    (given-right i (desk.scene ∷ []) (acted.scene ∷ []) (settle (sizes_of setup) acted.scene).inputs
-    (given-here i acted.scene [] (settle (sizes_of setup) acted.scene).inputs (given-settle i acted.scene (sizes_of setup))))
+    let acted : SceneOutcome = perform setup.denied (route setup i desk.scene) desk.scene in
+    given-append (IsAmong setup.denied i (desk.scene ∷ acted.scene ∷ [])) acted.inputs (settle (sizes_of setup) acted.scene).inputs
+    (given-here setup.denied i desk.scene (acted.scene ∷ []) acted.inputs (given-one setup.denied i desk.scene (route setup i desk.scene) (fits-route setup desk.scene i)))
+    (given-right setup.denied i (desk.scene ∷ []) (acted.scene ∷ []) (settle (sizes_of setup) acted.scene).inputs
+    (given-here setup.denied i acted.scene [] (settle (sizes_of setup) acted.scene).inputs (given-settle setup.denied i acted.scene (sizes_of setup))))
 
 -- an end of a session, unless it has ended
 given-end : (setup : Setup) (i : Item) (guest : ℕ) (input : Input) → ((P : ℕ → GIn → List ℕ → Type 0) → IfGiven P guest input)
     → (cause : Cause) (desk : DeskState) (ended : Option Cause)
-    → GivenAmong i (end_moments guest input cause ended desk.scene) (end_of_open setup guest input cause ended desk).inputs
-given-end setup i guest input plain cause desk (Some c) = given-nothing i []
+    → GivenAmong setup.denied i (end_moments guest input cause ended desk.scene) (end_of_open setup guest input cause ended desk).inputs
+given-end setup i guest input plain cause desk (Some c) = given-nothing setup.denied i []
 given-end setup i guest input plain cause desk None =
-    given-told i guest input plain (sizes_of setup) (end_told guest input cause desk.scene).scene
+    given-told setup.denied i guest input plain (sizes_of setup) (end_told guest input cause desk.scene).scene
 
 module _ (setup : Setup) (i : Item) (guest : ℕ) where
   -- a unit, whether it ended the session or not
   given-unit : (unit : StreamUnit) (desk : DeskState) (e : Effect) (cause : Option Cause)
-      → GivenAmong i (unit_moment guest unit e cause desk.scene ∷ []) (unit_done setup guest unit e cause desk).inputs
-  given-unit unit desk e None = given-told i guest (Took unit) (λ P. tt) (sizes_of setup) (unit_told guest unit e desk.scene).scene
-  given-unit unit desk e (Some cause) = given-told i guest (Took unit) (λ P. tt) (sizes_of setup) (end_told guest (Took unit) cause desk.scene).scene
+      → GivenAmong setup.denied i (unit_moment setup guest unit e cause desk.scene ∷ []) (unit_done setup guest unit e cause desk).inputs
+  given-unit unit desk e None = given-told setup.denied i guest (Took unit) (λ P. tt) (sizes_of setup) (unit_told (sizes_of setup).clip_limit guest unit e desk.scene).scene
+  given-unit unit desk e (Some cause) = given-told setup.denied i guest (Took unit) (λ P. tt) (sizes_of setup) (end_told guest (Took unit) cause desk.scene).scene
 
   -- a unit, unless the session has ended
   given-unit_by : (unit : StreamUnit) (desk : DeskState) (ended : Option Cause)
-      → GivenAmong i (unit_moments setup guest unit ended desk) (unit_of_open setup guest unit ended desk).inputs
-  given-unit_by unit desk (Some cause) = given-nothing i []
+      → GivenAmong setup.denied i (unit_moments setup guest unit ended desk) (unit_of_open setup guest unit ended desk).inputs
+  given-unit_by unit desk (Some cause) = given-nothing setup.denied i []
   given-unit_by unit desk None = given-unit unit desk (unit_effect setup guest unit desk) (unit_effect setup guest unit desk).cause
 
   -- units
-  given-units : (units : List StreamUnit) (desk : DeskState) → GivenAmong i (moments_of_units setup guest units desk) (take_units setup guest units desk).inputs
-  given-units [] desk = given-nothing i []
+  given-units : (units : List StreamUnit) (desk : DeskState) → GivenAmong setup.denied i (moments_of_units setup guest units desk) (take_units setup guest units desk).inputs
+  given-units [] desk = given-nothing setup.denied i []
   given-units (unit ∷ units) desk =
       let first : StepOutcome = take_unit setup guest unit desk in
       let here : List Scene = unit_moments setup guest unit (session_of guest desk).ended desk in
       let later : List Scene = moments_of_units setup guest units first.desk in
-      given-append (IsAmong i (here ++ later)) first.inputs (take_units setup guest units first.desk).inputs
-      (given-left i here later first.inputs (given-unit_by unit desk (session_of guest desk).ended))
-      (given-right i here later (take_units setup guest units first.desk).inputs (given-units units first.desk))
+      given-append (IsAmong setup.denied i (here ++ later)) first.inputs (take_units setup guest units first.desk).inputs
+      (given-left setup.denied i here later first.inputs (given-unit_by unit desk (session_of guest desk).ended))
+      (given-right setup.denied i here later (take_units setup guest units first.desk).inputs (given-units units first.desk))
 
   -- a piece of bytes, unless the session has ended
   given-bytes : (piece : List ℕ) (desk : DeskState) (ended : Option Cause)
-      → GivenAmong i (bytes_moments setup guest piece ended desk) (bytes_of_open setup guest piece ended desk).inputs
-  given-bytes piece desk (Some cause) = given-nothing i []
+      → GivenAmong setup.denied i (bytes_moments setup guest piece ended desk) (bytes_of_open setup guest piece ended desk).inputs
+  given-bytes piece desk (Some cause) = given-nothing setup.denied i []
   given-bytes piece desk None =
       let c : Cut = cut (session_of guest desk).greeted ((session_of guest desk).rest ++ piece) in
       given-units c.units (with_rest guest c.rest desk)
 
 -- a change of a guest's frames
-given-store : (i : Item) (guest delay page offset : ℕ) (bytes : List ℕ) (desk : DeskState) (ended : Option Cause)
-    → GivenAmong i [] (store_of_open guest delay page offset bytes ended desk).inputs
-given-store i guest delay page offset bytes desk (Some cause) = given-nothing i []
-given-store i guest delay page offset bytes desk None = given-nothing i []
+given-store : (denied : List Pair) (i : Item) (guest delay page offset : ℕ) (bytes : List ℕ) (desk : DeskState) (ended : Option Cause)
+    → GivenAmong denied i [] (store_of_open guest delay page offset bytes ended desk).inputs
+given-store denied i guest delay page offset bytes desk (Some cause) = given-nothing denied i []
+given-store denied i guest delay page offset bytes desk None = given-nothing denied i []
 
 -- each input that a step grants carries no more than it may
 pub grants-carry_no_more : GrantsCarryNoMore
@@ -144,10 +145,10 @@ grants-carry_no_more setup (item.Bytes guest) piece desk =
 grants-carry_no_more setup (item.Closed guest) piece desk =
     given-end setup (item.Closed guest) guest Closing (λ P. tt) (StreamEnded 0 0) (count_item desk) (session_of guest desk).ended
 grants-carry_no_more setup (item.Store guest delay page offset) piece desk =
-    given-store (item.Store guest delay page offset) guest delay page offset piece (count_item desk) (session_of guest desk).ended
+    given-store setup.denied (item.Store guest delay page offset) guest delay page offset piece (count_item desk) (session_of guest desk).ended
 grants-carry_no_more setup (item.Lost guest) piece desk =
     given-end setup (item.Lost guest) guest Losing (λ P. tt) (LinkFailed 0 0) (count_item desk) (session_of guest desk).ended
-grants-carry_no_more setup item.Snap piece desk = given-nothing item.Snap []
-grants-carry_no_more setup item.End piece desk = given-nothing item.End []
-grants-carry_no_more setup item.Idle piece desk = given-nothing item.Idle []
+grants-carry_no_more setup item.Snap piece desk = given-nothing setup.denied item.Snap []
+grants-carry_no_more setup item.End piece desk = given-nothing setup.denied item.End []
+grants-carry_no_more setup item.Idle piece desk = given-nothing setup.denied item.Idle []
 grants-carry_no_more setup i piece desk = given-event setup i (count_item desk)

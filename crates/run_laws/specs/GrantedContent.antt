@@ -5,6 +5,7 @@ use Rattle.std.specs.List.{All, Any}
 use Rattle.gui_num.specs.declared.Rect.{Rect}
 use Rattle.desk_laws.specs.declared.row_id.RowId.{RowId}
 use Rattle.desk_laws.specs.declared.setup.Setup.{Setup}
+use Rattle.desk_laws.specs.declared.setup.Pair.{Pair}
 use Rattle.desk_laws.specs.declared.cause.Cause.{Cause}
 use Rattle.desk_laws.specs.declared.cause.Cause.TheVariants.{StreamEnded, LinkFailed}
 use Rattle.desk_laws.specs.declared.item.Item.{Item}
@@ -15,6 +16,8 @@ use Rattle.desk_laws.specs.Stream.{StreamUnit, Cut, cut}
 use Rattle.desk_laws.specs.Rows.{Row, row_at}
 use Rattle.desk_laws.specs.Effects.{Effect}
 use Rattle.desk_laws.specs.Grants.{window_of}
+use Rattle.desk_laws.specs.Sizes.{sizes_of}
+use Rattle.desk_laws.specs.Pairs.{denies}
 use Rattle.desk_laws.specs.Clipboard.{Content}
 use Rattle.desk_laws.specs.Scene.{Scene, Input, Took, Given, Closing, Losing, GuestInput, perform}
 use Rattle.desk_laws.specs.State.{DeskState, session_of}
@@ -74,31 +77,34 @@ IsCarried i scene guest (g.Restored window) = i ≡ item.Restore
 IsCarried i scene guest (g.ClipAsk window) = IsChordFor i 54 scene (row_of guest window)
 IsCarried i scene guest (g.ClipGive window) = IsChordFor i 55 scene (row_of guest window)
 
--- a paste has the bytes of the clipboard beside it, and no other input has any
-abbrev pub IsBeside : Scene → GIn → List ℕ → Type 0
-IsBeside scene (g.ClipGive window) paste =
+-- a paste has the bytes of the clipboard beside it, whose source and the guest aren't a denied pair, and no other
+-- input has any
+abbrev pub IsBeside : List Pair → Scene → ℕ → GIn → List ℕ → Type 0
+IsBeside denied scene guest (g.ClipGive window) paste =
     (content : Content) × (scene.clip.content ≡ Some content) × (paste ≡ content.bytes)
-IsBeside scene input paste = paste ≡ []
+    × (denies denied content.source guest ≡ false)
+IsBeside denied scene guest input paste = paste ≡ []
 
 -- an input that is granted to a guest at an item, while this is on the desktop: it names a window of the guest
--- or none, and carries no more than the item, the pointer, the focus and the window's own place tell
-pub record IsGrantedAt (i : Item) (scene : Scene) (guest : ℕ) (input : GIn) (paste : List ℕ) : Type 0 where
+-- or none, and carries no more than the item, the pointer, the focus and the window's own place tell, and what the
+-- clipboard holds where no denied pair forbids it
+pub record IsGrantedAt (denied : List Pair) (i : Item) (scene : Scene) (guest : ℕ) (input : GIn) (paste : List ℕ) : Type 0 where
   pub there : (window : ℕ) → window_of input ≡ Some window → is_some (row_at (row_of guest window) scene.rows) ≡ true
   pub carried : IsCarried i scene guest input
-  pub beside : IsBeside scene input paste
+  pub beside : IsBeside denied scene guest input paste
 
 -- ---- the moments of a step
 
 -- what is on the desktop once a unit was taken, before anything is granted
-abbrev pub unit_moment : ℕ → StreamUnit → Effect → Option Cause → Scene → Scene
-unit_moment guest unit e None scene = (unit_told guest unit e scene).scene
-unit_moment guest unit e (Some cause) scene = (end_told guest (Took unit) cause scene).scene
+abbrev pub unit_moment : Setup → ℕ → StreamUnit → Effect → Option Cause → Scene → Scene
+unit_moment setup guest unit e None scene = (unit_told (sizes_of setup).clip_limit guest unit e scene).scene
+unit_moment setup guest unit e (Some cause) scene = (end_told guest (Took unit) cause scene).scene
 
 -- the moment of a unit, unless the session has ended
 abbrev pub unit_moments : Setup → ℕ → StreamUnit → Option Cause → DeskState → List Scene
 unit_moments setup guest unit (Some cause) desk = []
 unit_moments setup guest unit None desk =
-    unit_moment guest unit (unit_effect setup guest unit desk) (unit_effect setup guest unit desk).cause desk.scene ∷ []
+    unit_moment setup guest unit (unit_effect setup guest unit desk) (unit_effect setup guest unit desk).cause desk.scene ∷ []
 
 -- the moments of units
 abbrev pub moments_of_units : Setup → ℕ → List StreamUnit → DeskState → List Scene
@@ -133,7 +139,7 @@ moments setup item.End piece desk = []
 moments setup (item.Lost guest) piece desk =
     end_moments guest Losing (LinkFailed 0 0) (session_of guest desk).ended desk.scene
 moments setup item.Idle piece desk = []
-moments setup i piece desk = desk.scene ∷ (perform (route setup i desk.scene) desk.scene).scene ∷ []
+moments setup i piece desk = desk.scene ∷ (perform setup.denied (route setup i desk.scene) desk.scene).scene ∷ []
 
 -- ---- the law
 
@@ -145,12 +151,12 @@ IfGiven P guest Closing = Unit {0}
 IfGiven P guest Losing = Unit {0}
 
 -- if it is a granted one, it is granted at one of these moments
-abbrev pub IsGrantedAmong : Item → List Scene → GuestInput → Type 0
-IsGrantedAmong i scenes t =
-    IfGiven (λ guest input paste. Any (λ scene. IsGrantedAt i scene guest input paste) scenes) t.guest t.input
+abbrev pub IsGrantedAmong : List Pair → Item → List Scene → GuestInput → Type 0
+IsGrantedAmong denied i scenes t =
+    IfGiven (λ guest input paste. Any (λ scene. IsGrantedAt denied i scene guest input paste) scenes) t.guest t.input
 
 -- each input that a step grants is granted at one of its moments
 abbrev pub GrantsCarryNoMore : Type 0
 GrantsCarryNoMore =
     (setup : Setup) (i : Item) (piece : List ℕ) (state : DeskState) →
-    All (IsGrantedAmong i (moments setup i piece (count_of i state))) (step setup i piece state).inputs
+    All (IsGrantedAmong setup.denied i (moments setup i piece (count_of i state))) (step setup i piece state).inputs

@@ -1,5 +1,6 @@
 pub mod Pieces
 pub mod GrantedContent
+pub mod ClipboardLaw
 pub mod WorkedRows
 pub mod WorkedStreams
 pub mod WorkedFrames

@@ -12,7 +12,7 @@ use Rattle.desk_laws.specs.Items.{FedItem}
 use Rattle.desk_laws.specs.Scene.{Post, Reply, Ended, Picture}
 use Rattle.desk_laws.specs.State.{StepOutcome, opening}
 use Rattle.desk_laws.specs.Steps.{run}
-use Rattle.run_laws.specs.WorkedRows.{red, small_desktop, bytes, just, version, focus_out, focused}
+use Rattle.run_laws.specs.WorkedRows.{red, whole, small_desktop, bytes, just, version, focus_out, focused}
 
 -- the guest `green`, whose label is green
 unfoldable pub green : GuestSetup
@@ -20,11 +20,12 @@ green = record { colour = record { 0 = 0x00ff00 }; name = 103 ∷ 114 ∷ 101 �
 
 -- a desktop of 10 by 6 pixels with the guests red and green
 unfoldable pub shared_desktop : Setup
-shared_desktop = record small_desktop { width = 10; guests = red ∷ green ∷ [] }
+shared_desktop = record small_desktop { width = 10; guests = red ∷ green ∷ []; outputs = whole 10 6 ∷ [] }
 
 -- red's desktop with other sides and another share of override windows, in percent
 unfoldable pub desktop_of : ℕ → ℕ → ℕ → Setup
-desktop_of width height percent = record small_desktop { width = width; height = height; percent = percent }
+desktop_of width height percent =
+    record small_desktop { width = width; height = height; percent = percent; outputs = whole width height ∷ [] }
 
 -- a piece of green's bytes
 unfoldable pub green_bytes : List ℕ → FedItem

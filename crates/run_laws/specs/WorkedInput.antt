@@ -7,7 +7,7 @@ use Rattle.desk_laws.specs.declared.setup.Setup.{Setup}
 use Rattle.desk_laws.specs.declared.item.Item.TheVariants as item
 use Rattle.desk_laws.specs.Items.{FedItem}
 use Rattle.desk_laws.specs.Scene.{Post, Reply, Picture}
-use Rattle.run_laws.specs.WorkedRows.{bytes, just, version, window_at, posts, greeting, focus_out, focused, ring}
+use Rattle.run_laws.specs.WorkedRows.{whole, bytes, just, version, window_at, posts, greeting, focus_out, focused, ring}
 use Rattle.run_laws.specs.WorkedGuests.{shared_desktop, green_bytes, mapped_at, outcome_of, two_mapped, both_greeted, none, red_label, green_label, grey}
 
 -- ---- what the user does
@@ -54,6 +54,10 @@ key_pressed guest state code = Reply guest (words (124 ∷ 1 ∷ 20 ∷ 2 ∷ 0 
 unfoldable pub key_released : (guest state code : ℕ) → Post
 key_released guest state code = Reply guest (words (124 ∷ 1 ∷ 20 ∷ 3 ∷ 0 ∷ 0 ∷ state ∷ code ∷ []))
 
+-- its guest's clipboard is asked for
+unfoldable pub clip_asked : (guest : ℕ) → Post
+clip_asked guest = Reply guest (words (139 ∷ 1 ∷ 0 ∷ []))
+
 -- it has another place
 unfoldable pub configured_to : (guest x y width height : ℕ) → Post
 configured_to guest x y width height = Reply guest (words (134 ∷ 1 ∷ 20 ∷ x ∷ y ∷ width ∷ height ∷ 0 ∷ []))
@@ -85,7 +89,7 @@ ClickRaises = told_by (moved_to 1 1 ∷ pressed ∷ just item.Snap ∷ [])
 
 -- a desktop of 20 by 10 pixels with the guests red and green
 unfoldable pub wide_desktop : Setup
-wide_desktop = record shared_desktop { width = 20; height = 10 }
+wide_desktop = record shared_desktop { width = 20; height = 10; outputs = whole 20 10 ∷ [] }
 
 -- red's window at (2, 2) and green's at (10, 2), both 4 by 4, and then some items
 unfoldable pub told_apart : List FedItem → List Post
@@ -134,9 +138,9 @@ OutsideTheDesktop =
     ≡ greeting ++ focused 0 1 ++ entered_at 0 1 0 1 ∷ pressed_at 0 1 0 ∷ []
 
 -- with Shift and Control down the keys 54 and 55 are chords: no guest is told of them, nor of their release, which wasn't
--- noted; with one of the two down they are keys
+-- noted, and the first asks for the clipboard; with one of the two down they are keys
 abbrev pub ChordsAreKept : Type 0
 ChordsAreKept =
     posts (bytes (window_at 2 2) ∷ key true 54 5 ∷ key false 54 5 ∷ key true 55 5 ∷ key false 55 5
     ∷ key true 54 4 ∷ key false 54 0 ∷ key true 55 1 ∷ key false 55 5 ∷ [])
-    ≡ greeting ++ focused 0 1 ++ key_pressed 0 4 54 ∷ key_released 0 0 54 ∷ key_pressed 0 1 55 ∷ key_released 0 5 55 ∷ []
+    ≡ greeting ++ focused 0 1 ++ clip_asked 0 ∷ key_pressed 0 4 54 ∷ key_released 0 0 54 ∷ key_pressed 0 1 55 ∷ key_released 0 5 55 ∷ []

@@ -1,5 +1,6 @@
 -- Small hand-computed runs, which the definitions have to give.
-use Rattle.std.specs.Prelude.{ℕ, ◌≡◌, ◌^◌, ◌-◌, List, [], ◌∷◌, ◌++◌, replicate}
+use Rattle.std.specs.Prelude.{ℕ, ◌≡◌, ◌^◌, ◌-◌, List, [], ◌∷◌, ◌++◌, replicate, pos}
+use Rattle.gui_num.specs.declared.Rect.{Rect}
 use Rattle.gui_wire.specs.Words.{words}
 use Rattle.gui_wire.specs.AgentMessages as agent
 use Rattle.gui_wire.specs.AgentMessages.{spelling}
@@ -17,7 +18,11 @@ use Rattle.desk_laws.specs.Steps.{run}
 unfoldable pub red : GuestSetup
 red = record { colour = record { 0 = 0xff0000 }; name = 114 ∷ 101 ∷ 100 ∷ [] }
 
--- a black desktop of 8 by 6 pixels with borders of one pixel
+-- all pixels of a plane with these sides
+unfoldable pub whole : (width height : ℕ) → Rect
+whole width height = record { x = pos 0; y = pos 0; w = width; h = height }
+
+-- a black desktop of 8 by 6 pixels with borders of one pixel, all of it one output
 unfoldable pub small_desktop : Setup
 small_desktop = record {
   width = 8;
@@ -28,6 +33,9 @@ small_desktop = record {
   percent = 90;
   background = record { 0 = 0 };
   guests = red ∷ [];
+  outputs = whole 8 6 ∷ [];
+  clip = 1;
+  denied = [];
 }
 
 -- a piece of red's bytes

@@ -2,6 +2,7 @@
 ghost use Rattle.desk_laws.specs.Endings.{EndsLeaveNothing, EndedDoesNothing};
 ghost use Rattle.desk_laws.specs.Others.{OthersStay};
 ghost use Rattle.desk_laws.specs.Sound.{OpeningIsSound, StepsKeepSound, RunsAreSound};
+ghost use Rattle.run_laws.specs.ClipboardLaw.{PastesToTheFocus, PastesNothingElse, StrangersLeaveIt, DataIsHeld, LongDataIsLost, LongDataIsAlike};
 ghost use Rattle.run_laws.specs.GrantedContent.{GrantsCarryNoMore};
 ghost use Rattle.run_laws.specs.Pieces.{PiecesJoin};
 
@@ -45,8 +46,22 @@ pub fn law_of_sound_states()
 /// and state, and goes to the focus, as the request to close does. A button and a motion have what the
 /// item says and the pointer's pixel from the corner of the window's place; a crossing has this pixel
 /// and whether the window has the focus. A new place has the two numbers of the item, in range, and
-/// the window's own other two. Pasted bytes are those of the clipboard, and come at a paste chord
-/// alone.
+/// the window's own other two. Pasted bytes are those of the clipboard, come at a paste chord alone, and
+/// never go between two guests that the setup denies.
 pub fn law_granted()
     ensures { GrantsCarryNoMore }
+{}
+
+/// Does nothing. Its contract says of the clipboard: at the paste chord what is held goes to the focus,
+/// to nobody else, and is then held no longer; without a focus, with nothing held, or where the pair of
+/// its source and the focused guest is denied, nothing is granted and the clipboard stays as it is. No
+/// item of a guest that wasn't asked changes it. Data of the guest that was asked is held up to the
+/// limit; longer data leaves nothing held, whichever bytes it has.
+pub fn law_of_clipboard()
+    ensures pasted { PastesToTheFocus }
+    ensures nothing { PastesNothingElse }
+    ensures strangers { StrangersLeaveIt }
+    ensures held { DataIsHeld }
+    ensures lost { LongDataIsLost }
+    ensures alike { LongDataIsAlike }
 {}

@@ -5,7 +5,10 @@
 mod law;
 mod worked;
 
-pub use law::{law_ended_session, law_granted, law_of_others, law_of_pieces, law_of_sound_states};
+pub use law::{
+    law_ended_session, law_granted, law_of_clipboard, law_of_others, law_of_pieces,
+    law_of_sound_states,
+};
 pub use worked::{
     worked_causes, worked_frames, worked_guests, worked_input, worked_messages, worked_rows,
     worked_streams,
