@@ -8,3 +8,5 @@ pub mod WorkedGuests
 pub mod WorkedMessages
 pub mod WorkedCauses
 pub mod WorkedInput
+pub mod WorkedOutputs
+pub mod WorkedClipboard

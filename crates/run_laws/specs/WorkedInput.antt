@@ -91,10 +91,13 @@ ClickRaises = told_by (moved_to 1 1 ∷ pressed ∷ just item.Snap ∷ [])
 unfoldable pub wide_desktop : Setup
 wide_desktop = record shared_desktop { width = 20; height = 10; outputs = whole 20 10 ∷ [] }
 
--- red's window at (2, 2) and green's at (10, 2), both 4 by 4, and then some items
+-- red's window at (2, 2) and green's at (10, 2), both 4 by 4
+unfoldable pub both_apart : List FedItem
+both_apart = bytes (version ++ mapped_at 1 2 2 4 4 0) ∷ green_bytes (version ++ mapped_at 1 10 2 4 4 0) ∷ []
+
+-- what both are told by some items behind them
 unfoldable pub told_apart : List FedItem → List Post
-told_apart items =
-    (outcome_of wide_desktop (bytes (version ++ mapped_at 1 2 2 4 4 0) ∷ green_bytes (version ++ mapped_at 1 10 2 4 4 0) ∷ items)).posts
+told_apart items = (outcome_of wide_desktop (both_apart ++ items)).posts
 
 -- a button held from red's window into green's: red is told all of it, and green that the pointer entered once it is released
 abbrev pub GrabAcrossWindows : Type 0

@@ -10,6 +10,6 @@ pub use law::{
     law_of_sound_states,
 };
 pub use worked::{
-    worked_causes, worked_frames, worked_guests, worked_input, worked_messages, worked_rows,
-    worked_streams,
+    worked_causes, worked_clipboard, worked_frames, worked_guests, worked_input, worked_messages,
+    worked_outputs, worked_rows, worked_streams,
 };

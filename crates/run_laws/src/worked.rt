@@ -6,6 +6,8 @@ ghost use Rattle.run_laws.specs.WorkedGuests.{TwoWindows, OneGuestEnds, Override
 ghost use Rattle.run_laws.specs.WorkedMessages.{Unmapped, UnmappedTwice, NamesKept, Destroyed, UnknownNames, TitleCut, TitleWhole, ClassAndName, HintsKept, Docked, CursorKept, SetAfterUnset, ThreeFlags, DumpKept, BroughtIntoRange};
 ghost use Rattle.run_laws.specs.WorkedCauses.{LinkLost, TypeNotTaken, LengthOfDestroy, LengthOfDump, OneReferenceMore, NoSuchWindow, RangeBeforeWindow, ClipboardOfNoWindow, NotCreated, DumpOutOfRange, FivePagesOfFour, ReferenceBeforeBudget, VersionTold};
 ghost use Rattle.run_laws.specs.WorkedInput.{ClickRaises, GrabAcrossWindows, ReleaseAfterFocusChange, NextWindow, Restored, AskedToClose, Resized, OutsideTheDesktop, ChordsAreKept};
+ghost use Rattle.run_laws.specs.WorkedOutputs.{PicturesOfOutputs, PointerBetweenOutputs, OverrideInTheSecond, OverrideInNone, FullScreenInTheSecond, ShareOfAnOutput, OutputsBreakRules, ClipboardBreaksRules, NoRuleBroken};
+ghost use Rattle.run_laws.specs.WorkedClipboard.{CopiedAndPasted, DataOfAnother, EndedAfterItsAnswer, EndedBeforeItsAnswer, AskedAgain, DeniedPair, OtherWayRound, LimitOfRevisions};
 
 /// The definitions give these hand-computed runs. It does nothing.
 pub fn worked_rows()
@@ -103,4 +105,31 @@ pub fn worked_input()
     ensures resized { Resized }
     ensures outside_the_desktop { OutsideTheDesktop }
     ensures chords_are_kept { ChordsAreKept }
+{}
+
+/// The definitions give these hand-computed runs over several outputs, and tell which rule of the
+/// outputs or of the clipboard a setup breaks. It does nothing.
+pub fn worked_outputs()
+    ensures pictures_of_outputs { PicturesOfOutputs }
+    ensures pointer_between_outputs { PointerBetweenOutputs }
+    ensures override_in_the_second { OverrideInTheSecond }
+    ensures override_in_none { OverrideInNone }
+    ensures full_screen_in_the_second { FullScreenInTheSecond }
+    ensures share_of_an_output { ShareOfAnOutput }
+    ensures outputs_break_rules { OutputsBreakRules }
+    ensures clipboard_breaks_rules { ClipboardBreaksRules }
+    ensures no_rule_broken { NoRuleBroken }
+{}
+
+/// The definitions give these hand-computed runs of what is copied and pasted, also where no paste may
+/// go from one guest to the other. It does nothing.
+pub fn worked_clipboard()
+    ensures copied_and_pasted { CopiedAndPasted }
+    ensures data_of_another { DataOfAnother }
+    ensures ended_after_its_answer { EndedAfterItsAnswer }
+    ensures ended_before_its_answer { EndedBeforeItsAnswer }
+    ensures asked_again { AskedAgain }
+    ensures denied_pair { DeniedPair }
+    ensures other_way_round { OtherWayRound }
+    ensures limit_of_revisions { LimitOfRevisions }
 {}
