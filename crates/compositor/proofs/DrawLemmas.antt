@@ -1,5 +1,5 @@
 -- Facts of spans, and of a row that is drawn bit by bit.
-use Rattle.std.proofs.Common.{◌≡◌, ℕ, zero, suc, ◌+◌, ◌-◌, ◌≤◌, ◌<◌, Bool, true, false, List, [], ◌∷◌, length, get_or, refl, sym, ◌∙◌, ap, arith, if◌then◌else◌, nat_le, nat_lt, min, max, drop, replicate, Option, Some, None, subst}
+use Rattle.std.proofs.Common.{◌≡◌, ℕ, zero, suc, ◌+◌, ◌-◌, ◌≤◌, ◌<◌, Bool, true, false, List, [], ◌∷◌, length, get_or, refl, sym, ◌∙◌, ap, arith, if◌then◌else◌, nat_le, nat_lt, min, max, take, drop, replicate, Option, Some, None, subst}
 use Rattle.std.specs.Prelude.{◌&&◌, ◌||◌, not, slice_get, ℤ, pos, negsuc, ◌+ℤ◌, ◌-ℤ◌, ◌≤ℤ◌, int_le, int_lt}
 use Rattle.std.proofs.lemmas.Bool.{leb-true, ltb-true, and_parts}
 use Rattle.std.proofs.lemmas.Bool.Decides.{nat_tests}
@@ -28,6 +28,10 @@ put-at xs ys a e k order inside long below = grind (arith, nat_tests, places)
 -- what stands in a part that was written
 pub put-in : (xs ys : List ℕ) (a e k : ℕ) → a ≤ k → k < e → e ≤ length xs → length ys ≡ e - a → get_or (put_mid a (e - a) xs ys) k 0 ≡ get_or ys (k - a) 0
 put-in xs ys a e k low high inside long = grind (arith, places)
+
+-- what stands in a part
+pub taken-at : (xs : List ℕ) (a e k : ℕ) → a ≤ k → k < e → get_or (take (e - a) (drop a xs)) (k - a) 0 ≡ get_or xs k 0
+taken-at xs a e k low high = grind (arith, places)
 
 -- after a part of a row got the values of a function
 pub drawn-at : (f : ℕ → ℕ) (xs ys : List ℕ) (a e k : ℕ) → a ≤ e → e ≤ length xs → length ys ≡ e - a → k < length xs

@@ -1,5 +1,6 @@
 pub mod BandLemmas
 pub mod DrawLemmas
+pub mod OutputLemmas
 pub mod PixelLemmas
 pub mod RowLemmas
 pub mod TestLemmas

@@ -1,6 +1,7 @@
--- What each pixel of a picture is: the colour of the topmost pane that has it.
-use Rattle.std.specs.Prelude.{ℕ, zero, suc, List, [], ◌∷◌, map, flat_map, Option, Some, None, if◌then◌else◌, pos, ◌-ℤ◌}
-use Rattle.std.specs.List.{find}
+-- What each pixel of a picture is: the colour of the topmost pane that has it, where an output has it.
+use Rattle.std.specs.Prelude.{◌≡◌, ◌<◌, ◌+◌, ◌*◌, ℕ, zero, suc, List, [], ◌∷◌, map, flat_map, Option, Some, None, Bool, false, slice_index, if◌then◌else◌, pos, ◌-ℤ◌}
+use Rattle.std.specs.List.{find, list_any}
+use Rattle.gui_num.specs.declared.Rect.{Rect}
 use Rattle.gui_num.specs.declared.Point.{Point}
 use Rattle.gui_num.specs.declared.Colour.{Colour}
 use Rattle.gui_num.specs.Rects.{has, nat_of}
@@ -41,6 +42,14 @@ colour_by background (Some pane) p = pane_colour pane p
 abbrev pub composed : ℕ → List Pane → Point → ℕ
 composed background panes p = colour_by background (topmost panes p) p
 
+-- whether some output has the pixel
+abbrev pub is_in : List Rect → Point → Bool
+is_in outputs p = list_any (λ output. has output p) outputs
+
+-- the colour of a pixel under some panes from the top, 0 where no output has it
+abbrev pub shown_at : ℕ → List Pane → List Rect → Point → ℕ
+shown_at background panes outputs p = if is_in outputs p then composed background panes p else 0
+
 -- the pixel in column x of row y
 abbrev pub at_pixel : ℕ → ℕ → Point
 at_pixel x y = record { x = pos x; y = pos y }
@@ -53,3 +62,7 @@ columns a (suc n) = a ∷ columns (suc a) n
 -- the pixels of a picture of some width and height, row by row from the top
 abbrev pub all_pixels : ℕ → ℕ → List Point
 all_pixels w h = flat_map (λ j. map (λ i. at_pixel i j) (columns 0 w)) (columns 0 h)
+
+-- the pixels of such a picture that no output has are 0
+abbrev pub AreZeroOutside : List Rect → ℕ → ℕ → List ℕ → Type 0
+AreZeroOutside outputs w h pixels = (x y : ℕ) → x < w → y < h → is_in outputs (at_pixel x y) ≡ false → slice_index pixels (y * w + x) ≡ 0

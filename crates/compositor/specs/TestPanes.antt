@@ -25,3 +25,11 @@ shown_panes =
     ∷ record { view = ringed (record { x = pos 4; y = pos 2; w = 3; h = 2 }) 0x00ff00; content = filled_but_first 0x0000ff }
     ∷ record { view = ringed (record { x = pos 1; y = pos 1; w = 3; h = 2 }) 0xff0000; content = filled 0xffffff }
     ∷ []
+
+-- a content that has no colour anywhere
+abbrev pub unfilled : ℕ → ℕ → Option Colour
+unfilled x y = None
+
+-- one pane in the middle
+abbrev pub pane_across : List Pane
+pane_across = record { view = ringed (record { x = pos 2; y = pos 2; w = 8; h = 2 }) 0xff0000; content = unfilled } ∷ []

@@ -3,8 +3,10 @@ ghost use Rattle.std.specs.Prelude.{◌≡◌, ◌<◌, ◌≤◌, ◌+◌, ◌-
 ghost use Rattle.gui_num.specs.Rects.{IsFit, nat_of, has, on_side, right};
 ghost use Rattle.region_clip.specs.Spans.{in_columns, in_spans, AreApart};
 ghost use Rattle.compositor.specs.Bands.{numbered, AreAsWide, spans_at, will_show};
-ghost use Rattle.compositor.specs.Composed.{Pane, views_of, colour_or, content_under, pane_colour, composed, at_pixel};
+ghost use Rattle.compositor.specs.Composed.{Pane, views_of, colour_or, content_under, pane_colour, composed, is_in, at_pixel};
 
+use crate::columns::{column, in_row, right_column};
+use crate::outputs::reset_rows;
 use crate::panes::{PaneView, Panes};
 use gui_num::{Colour, Rect};
 use label_border::ring_row;
@@ -12,31 +14,6 @@ use region_clip::{RowSpans, Spans};
 
 // What a window shows where it has no content.
 const BLANK: Colour = Colour(0x808080);
-
-// The column of a place, 0 where it lies to the left of the picture.
-fn column(x: i32) -> u32
-    ensures { result ≡ nat_of x }
-{
-    if x < 0 { 0 } else { x as u32 }
-}
-
-// The column past the last one of a rectangle, 0 where that lies to the left of the picture.
-fn right_column(r: Rect) -> u32
-    requires { IsFit r }
-    ensures { result ≡ nat_of (right r) }
-{
-    column(r.x + r.w as i32)
-}
-
-// Whether a rectangle reaches the row y.
-fn in_row(r: Rect, y: u32) -> bool
-    requires fit { IsFit r }
-    requires row { y < 8192 }
-    ensures { result ≡ on_side r.y r.h (pos y) }
-{
-    let place = y as i32;
-    r.y <= place && place < r.y + r.h as i32
-}
 
 // How many columns, or rows, a place of the picture lies behind the edge of a window.
 fn behind(edge: i32, place: u32) -> u32
@@ -321,17 +298,6 @@ fn paint_from<Q: Panes>(
     }
 }
 
-// Lets all columns of some rows be drawn.
-fn reset_rows(rows: &mut [RowSpans], width: u32)
-    requires { AreAsWide width rows.old }
-    ensures widths { AreAsWide width rows.new }
-    ensures columns { (j x : ℕ) → j < length rows.old → in_spans (spans_at rows.new j) x ≡ in_columns 0 width x }
-{
-    for j in 0..rows.len() {
-        rows[j].reset(0, width);
-    }
-}
-
 // Gives the columns of a row that are left to be drawn a colour. The row begins at a place of the pixels.
 fn fill_at(pixels: &mut [u32], start: usize, spans: &RowSpans, width: u32, colour: u32)
     requires width { spans.now.width ≡ width }
@@ -358,13 +324,14 @@ fn fill_rows(pixels: &mut [u32], rows: &[RowSpans], width: u32, colour: u32)
     }
 }
 
-// Draws the rows of a band, from the row `top` of the picture down, pane by pane in all of its rows, so
+// Draws what outputs have of the rows of a band, from the row `top` of the picture down, pane by pane in all of its rows, so
 // that of each content rows that lie one below the other are read one after the other: the panes with
 // these numbers, then those from the one with the number `rest` on, and the background.
 pub(crate) fn paint_band<Q: Panes>(
     pixels: &mut [u32],
     rows: &mut [RowSpans],
     panes: &Q,
+    outputs: &[Rect],
     listed: &[usize],
     rest: usize,
     top: u32,
@@ -376,10 +343,11 @@ pub(crate) fn paint_band<Q: Panes>(
     requires low { top + length rows.old ≤ 8192 }
     requires size { length pixels.old ≡ length rows.old * width }
     requires widths { AreAsWide width rows.old }
+    requires fit { All IsFit outputs.now }
     ensures widths { AreAsWide width rows.new }
-    ensures pixels { (j x : ℕ) → j < length rows.old → x < width → slice_index pixels.new (j * width + x) ≡ composed background (numbered (Q.panes panes.now) listed.now ++ drop rest (Q.panes panes.now)) (at_pixel x (top + j)) }
+    ensures pixels { (j x : ℕ) → j < length rows.old → x < width → slice_index pixels.new (j * width + x) ≡ (if is_in outputs.now (at_pixel x (top + j)) then composed background (numbered (Q.panes panes.now) listed.now ++ drop rest (Q.panes panes.now)) (at_pixel x (top + j)) else slice_index pixels.old (j * width + x)) }
 {
-    reset_rows(rows, width);
+    reset_rows(rows, outputs, top, width);
     paint_listed(pixels, rows, panes, listed, top, width);
     paint_from(pixels, rows, panes, rest, top, width);
     fill_rows(pixels, rows, width, background);

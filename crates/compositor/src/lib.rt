@@ -1,8 +1,10 @@
-//! The picture of a desktop: each of its pixels once, from the topmost window down.
+//! The picture of a desktop: each pixel of its outputs once, from the topmost window down.
 #![tactic(auto)]
 
 mod band;
+mod columns;
 mod draw;
+mod outputs;
 mod panes;
 mod picture;
 

@@ -1,25 +1,28 @@
-// The picture of the desktop: one colour for each pixel.
-ghost use Rattle.std.specs.Prelude.{◌≡◌, ◌<◌, ◌≤◌, ◌+◌, ◌-◌, ◌*◌, ◌++◌, ℕ, All, length, map, take, drop, slice_index, vec_len, IfOk, if◌then◌else◌};
-ghost use Rattle.region_clip.specs.Spans.{in_spans};
+// The picture of the desktop: one colour for each pixel of its outputs.
+ghost use Rattle.std.specs.Prelude.{◌≡◌, ◌<◌, ◌≤◌, ◌+◌, ◌-◌, ◌*◌, ◌++◌, ℕ, All, false, length, map, take, drop, slice_index, vec_len, IfOk, if◌then◌else◌};
+ghost use Rattle.gui_num.specs.Rects.{IsFit};
 ghost use Rattle.compositor.specs.Bands.{numbered, AreAsWide, ShowSame};
-ghost use Rattle.compositor.specs.Composed.{composed, at_pixel, all_pixels};
-ghost use Rattle.compositor.specs.PictureView.{counted};
+ghost use Rattle.compositor.specs.Composed.{composed, is_in, shown_at, at_pixel, all_pixels, AreZeroOutside};
+ghost use Rattle.compositor.specs.PictureView.{LiesIn, shown_area, counted};
 
 use crate::band::{BAND_ROWS, MOST_LISTED, list_band};
 use crate::draw::paint_band;
+use crate::outputs::add_areas;
 use crate::panes::Panes;
-use gui_num::{Colour, NoMemory};
+use gui_num::{Colour, NoMemory, Rect};
 use region_clip::RowSpans;
 use std::alloc::Global;
 use std::marker::Model;
 
-/// The picture of the desktop: one colour for each pixel. It is seen as its sides in pixels, its
-/// background, its colours row by row from the top, and the number of pixels that were drawn in all.
+/// The picture of the desktop: one colour for each pixel of a plane, which is 0 where no output has the
+/// pixel. It is seen as the plane's sides in pixels, its background, its outputs, its colours row by row
+/// from the top, and the number of pixels that were drawn in all.
 #[derive(Drop)]
 pub struct Picture {
     width: u32,
     height: u32,
     background: Colour,
+    outputs: Vec<Rect>,
     pixels: Vec<u32>,
     // What is left to be drawn of each row of a band.
     rows: Vec<RowSpans>,
@@ -29,38 +32,44 @@ pub struct Picture {
 }
 
 impl Model for Picture {
-    ghost use Rattle.std.specs.Prelude.{◌≡◌, vec_len};
-    ghost use Rattle.compositor.specs.PictureView.{PictureView, HasSides};
+    ghost use Rattle.std.specs.Prelude.{◌≡◌, All, vec_len};
+    ghost use Rattle.compositor.specs.PictureView.{PictureView, HasSides, LiesIn};
+    ghost use Rattle.compositor.specs.Composed.{AreZeroOutside};
     ghost use Rattle.compositor.specs.Bands.{AreAsWide};
 
     ghost Value = { PictureView };
 
-    ghost view = { λ p. record { width = p.width; height = p.height; background = p.background.0; pixels = p.pixels.items; painted = p.painted } };
+    ghost view = { λ p. record { width = p.width; height = p.height; background = p.background.0; outputs = p.outputs.items; pixels = p.pixels.items; painted = p.painted } };
 
-    ghost invariant = { λ p. HasSides p.width p.height (vec_len p.pixels) × AreAsWide p.width p.rows.items × (vec_len p.rows ≡ 16) };
+    ghost invariant = { λ p. HasSides p.width p.height (vec_len p.pixels) × AreAsWide p.width p.rows.items × (vec_len p.rows ≡ 16) × All (LiesIn p.width p.height) p.outputs.items × AreZeroOutside p.outputs.items p.width p.height p.pixels.items };
 }
 
 impl Picture {
-    /// A picture of `width` by `height` pixels, all of the colour of the background, of which nothing
-    /// counts as drawn yet. All memory is taken here: no other call takes any. `NoMemory` where there is
-    /// none for its pixels, or for what drawing them needs.
+    /// A picture of a plane of `width` by `height` pixels with at most 8 outputs, of which it keeps a copy.
+    /// All its pixels are 0, and nothing counts as drawn yet. All memory is taken here: no other call takes
+    /// any. `NoMemory` where there is none for its pixels, or for what drawing them needs.
     pub fn new(
         alloc: Global,
         width: u32,
         height: u32,
         background: Colour,
+        outputs: &[Rect],
     ) -> Result<Picture, NoMemory>
         requires wide { width ≤ 8192 }
         requires high { height ≤ 8192 }
-        ensures { IfOk result (λ p. p ≡ record { width = width; height = height; background = background.0; pixels = map (λ _. background.0) (all_pixels width height); painted = 0 }) }
+        requires few { length outputs.now ≤ 8 }
+        requires placed { All (LiesIn width height) outputs.now }
+        ensures { IfOk result (λ p. p ≡ record { width = width; height = height; background = background.0; outputs = outputs.now; pixels = map (λ _. 0) (all_pixels width height); painted = 0 }) }
     {
-        let pixels = vec![in alloc; background.0; height as usize * width as usize]?;
+        let outputs = outputs.to_vec(alloc)?;
+        let pixels = vec![in alloc; 0; height as usize * width as usize]?;
         let rows = new_rows(alloc, width)?;
         let listed = Vec::with_capacity(alloc, MOST_LISTED)?;
         Ok(Picture {
             width,
             height,
             background,
+            outputs,
             pixels,
             rows,
             listed,
@@ -68,7 +77,7 @@ impl Picture {
         })
     }
 
-    /// Its width in pixels, at most 8192.
+    /// The width of its plane in pixels, at most 8192.
     pub fn width(&self) -> u32
         ensures is { result ≡ self.now.width }
         ensures small { result ≤ 8192 }
@@ -76,13 +85,21 @@ impl Picture {
         self.width
     }
 
-    /// Its height in pixels, at most 8192.
+    /// The height of its plane in pixels, at most 8192.
     pub fn height(&self) -> u32
         ensures is { result ≡ self.now.height }
         ensures small { result ≤ 8192 }
         ensures whole { length self.now.pixels ≡ self.now.width * self.now.height }
     {
         self.height
+    }
+
+    /// Its outputs, the rectangles of the plane whose pixels are drawn. They lie in the plane.
+    pub fn outputs(&self) -> &[Rect]
+        ensures is { result.now ≡ self.now.outputs }
+        ensures placed { All (LiesIn self.now.width self.now.height) result.now }
+    {
+        &self.outputs
     }
 
     /// The number of pixels that were drawn since it was made, at most 2^64 - 1.
@@ -92,38 +109,39 @@ impl Picture {
         self.painted
     }
 
-    /// The colours of the row `y`, 0xrrggbb each, from the left. The rows are counted from the top, from
-    /// 0.
+    /// The colours of the row `y`, 0xrrggbb each, from the left, 0 where no output has the pixel. The rows
+    /// are counted from the top, from 0.
     pub fn row(&self, y: u32) -> &[u32]
         requires { y < self.now.height }
         ensures row { result.now ≡ take self.now.width (drop (y * self.now.width) self.now.pixels) }
         ensures len { length result.now ≡ self.now.width }
+        ensures outside { (x : ℕ) → x < self.now.width → is_in self.now.outputs (at_pixel x y) ≡ false → slice_index result.now x ≡ 0 }
     {
         let width = self.width as usize;
         let start = y as usize * width;
         &self.pixels[start..start + width]
     }
 
-    /// Draws each pixel once: it is of the colour of the topmost pane whose outer rectangle has it, which
-    /// is its content inside the content rectangle (grey where there is none) and the colour of its border
-    /// around that, and of the background where no pane has it. All pixels count as drawn.
+    /// Draws each pixel of the outputs once: it is of the colour of the topmost pane whose outer rectangle
+    /// has it, which is its content inside the content rectangle (grey where there is none) and the colour
+    /// of its border around that, and of the background where no pane has it. Pixels that no output has stay
+    /// 0. As many pixels as the outputs have count as drawn, each as often as outputs have it.
     pub fn paint<Q: Panes>(&mut self, panes: &Q)
-        ensures sides { (self.new.width ≡ self.old.width) × (self.new.height ≡ self.old.height) × (self.new.background ≡ self.old.background) }
-        ensures pixels { self.new.pixels ≡ map (composed self.old.background (Q.panes panes.now)) (all_pixels self.old.width self.old.height) }
-        ensures painted { self.new.painted ≡ counted (self.old.painted + self.old.width * self.old.height) }
+        ensures sides { (self.new.width ≡ self.old.width) × (self.new.height ≡ self.old.height) × (self.new.background ≡ self.old.background) × (self.new.outputs ≡ self.old.outputs) }
+        ensures pixels { self.new.pixels ≡ map (shown_at self.old.background (Q.panes panes.now) self.old.outputs) (all_pixels self.old.width self.old.height) }
+        ensures painted { self.new.painted ≡ counted (self.old.painted + shown_area self.old.outputs) }
     {
         paint_rows(
             &mut self.pixels,
             &mut self.rows,
             &mut self.listed,
             panes,
+            &self.outputs,
             self.width,
             self.height,
             self.background.0,
         );
-        self.painted = self
-            .painted
-            .saturating_add(u64::from(self.width) * u64::from(self.height));
+        self.painted = add_areas(self.painted, &self.outputs);
     }
 }
 
@@ -139,12 +157,13 @@ fn new_rows(alloc: Global, width: u32) -> Result<Vec<RowSpans>, NoMemory>
     Ok(rows)
 }
 
-// Draws all rows of a picture, from the top, in bands of rows.
+// Draws the outputs of a picture, from the top, in bands of rows.
 fn paint_rows<Q: Panes>(
     pixels: &mut [u32],
     rows: &mut [RowSpans],
     listed: &mut Vec<usize>,
     panes: &Q,
+    outputs: &[Rect],
     width: u32,
     height: u32,
     background: u32,
@@ -152,28 +171,32 @@ fn paint_rows<Q: Panes>(
     requires small { width ≤ 8192 }
     requires low { height ≤ 8192 }
     requires size { length pixels.old ≡ height * width }
+    requires placed { All (LiesIn width height) outputs.now }
+    requires outside { AreZeroOutside outputs.now width height pixels.old }
     requires band { length rows.old ≡ 16 }
     requires widths { AreAsWide width rows.old }
     ensures widths { AreAsWide width rows.new }
-    ensures pixels { pixels.new ≡ map (composed background (Q.panes panes.now)) (all_pixels width height) }
+    ensures pixels { pixels.new ≡ map (shown_at background (Q.panes panes.now) outputs.now) (all_pixels width height) }
+    ensures outside { AreZeroOutside outputs.now width height pixels.new }
 {
     let mut top = 0;
     while top < height {
         let bottom = height.min(top + BAND_ROWS);
         let rest = list_band(listed, panes, top, bottom);
         paint_at(
-            pixels, rows, panes, listed, rest, top, bottom, width, background,
+            pixels, rows, panes, outputs, listed, rest, top, bottom, width, background,
         );
         top = bottom;
     }
 }
 
-// Draws the rows from `top` on and before `bottom`, in which the panes with these numbers and those from
+// Draws what outputs have of the rows from `top` on and before `bottom`, in which the panes with these numbers and those from
 // the one with the number `rest` on show what all show.
 fn paint_at<Q: Panes>(
     pixels: &mut [u32],
     rows: &mut [RowSpans],
     panes: &Q,
+    outputs: &[Rect],
     listed: &[usize],
     rest: usize,
     top: u32,
@@ -185,13 +208,15 @@ fn paint_at<Q: Panes>(
     requires order { top ≤ bottom }
     requires low { bottom ≤ 8192 }
     requires inside { bottom * width ≤ length pixels.old }
+    requires fit { All IsFit outputs.now }
     requires band { bottom - top ≤ length rows.old }
     requires widths { AreAsWide width rows.old }
     requires numbers { All (λ k. k < length (Q.panes panes.now)) listed.now }
     requires same { ShowSame top bottom (numbered (Q.panes panes.now) listed.now ++ drop rest (Q.panes panes.now)) (Q.panes panes.now) }
     ensures widths { AreAsWide width rows.new }
-    ensures here { (x y : ℕ) → x < width → top ≤ y → y < bottom → slice_index pixels.new (y * width + x) ≡ composed background (Q.panes panes.now) (at_pixel x y) }
+    ensures here { (x y : ℕ) → x < width → top ≤ y → y < bottom → slice_index pixels.new (y * width + x) ≡ (if is_in outputs.now (at_pixel x y) then composed background (Q.panes panes.now) (at_pixel x y) else slice_index pixels.old (y * width + x)) }
     ensures before { (i : ℕ) → i < top * width → slice_index pixels.new i ≡ slice_index pixels.old i }
+    ensures behind { (i : ℕ) → bottom * width ≤ i → slice_index pixels.new i ≡ slice_index pixels.old i }
 {
     let start = top as usize * width as usize;
     let end = bottom as usize * width as usize;
@@ -200,6 +225,7 @@ fn paint_at<Q: Panes>(
         &mut pixels[start..end],
         &mut rows[..count],
         panes,
+        outputs,
         listed,
         rest,
         top,

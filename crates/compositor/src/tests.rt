@@ -1,8 +1,8 @@
-// A hand-computed picture of three panes.
+// Hand-computed pictures: three panes in one output, and one pane across two.
 ghost use Rattle.std.specs.Prelude.{◌≡◌, ◌<◌, ◌≤◌, true, pos, negsuc, ◌≤ℤ◌};
 ghost use Rattle.gui_num.specs.declared.Point.{Point};
 ghost use Rattle.gui_num.specs.Rects.{IsFit, has};
-ghost use Rattle.compositor.specs.TestPanes.{ringed, shown_panes};
+ghost use Rattle.compositor.specs.TestPanes.{ringed, shown_panes, pane_across};
 
 use super::*;
 use gui_num::{Colour, Rect, grow};
@@ -97,7 +97,7 @@ impl Panes for Shown {
 }
 
 // Whether a row of the picture has these colours: of the background, of borders by their names, of
-// contents (`c`, `u` and `w`), and of a content that has none.
+// contents (`c`, `u` and `w`), of a content that has none, and of what no output has (`0`).
 fn shows(picture: &Picture, y: u32, row: &[u8]) -> bool {
     if y >= picture.height() {
         return false;
@@ -113,6 +113,7 @@ fn shows(picture: &Picture, y: u32, row: &[u8]) -> bool {
             Some(b'u') => 0x0000ff,
             Some(b'w') => 0xffffff,
             Some(b'-') => 0x808080,
+            Some(b'0') => 0,
             _ => 0x102030,
         };
         same &= *colour == wanted;
@@ -126,10 +127,16 @@ fn the_topmost_pane_is_seen(rt: HostRuntime) {
         asked: Cell::new(0),
         again: Cell::new(false),
     };
-    let Ok(mut picture) = Picture::new(rt.alloc(), 8, 6, Colour(0x102030)) else {
+    let whole = [Rect {
+        x: 0,
+        y: 0,
+        w: 8,
+        h: 6,
+    }];
+    let Ok(mut picture) = Picture::new(rt.alloc(), 8, 6, Colour(0x102030), &whole) else {
         panic!(rt; "memory is ample");
     };
-    assert!(rt; shows(&picture, 0, b"........") && picture.painted() == 0);
+    assert!(rt; shows(&picture, 0, b"00000000") && picture.painted() == 0);
     picture.paint(&panes);
     assert!(rt; shows(&picture, 0, b"cYRRR..."));
     assert!(rt; shows(&picture, 1, b"YYwGGGGG"));
@@ -141,4 +148,55 @@ fn the_topmost_pane_is_seen(rt: HostRuntime) {
     assert!(rt; panes.asked.get() == 0x1afd0 && !panes.again.get());
     picture.paint(&panes);
     assert!(rt; picture.painted() == 96);
+}
+
+// One pane in the middle, whose content has no colour anywhere.
+#[derive(Drop)]
+struct Across;
+
+impl Panes for Across {
+    ghost panes = { λ _. pane_across };
+
+    fn count(&self) -> usize {
+        1
+    }
+
+    fn view(&self, k: usize) -> PaneView {
+        ringed(
+            Rect {
+                x: 2,
+                y: 2,
+                w: 8,
+                h: 2,
+            },
+            0xff0000,
+        )
+    }
+
+    fn content(&self, k: usize, x: u32, y: u32) -> Option<Colour> {
+        None
+    }
+}
+
+#[test]
+fn nothing_is_drawn_between_outputs(rt: HostRuntime) {
+    let left = Rect {
+        x: 0,
+        y: 0,
+        w: 5,
+        h: 6,
+    };
+    let right = Rect { x: 7, ..left };
+    let outputs = [left, right];
+    let Ok(mut picture) = Picture::new(rt.alloc(), 12, 6, Colour(0x102030), &outputs) else {
+        panic!(rt; "memory is ample");
+    };
+    picture.paint(&Across);
+    assert!(rt; shows(&picture, 0, b".....00....."));
+    assert!(rt; shows(&picture, 1, b".RRRR00RRRR."));
+    assert!(rt; shows(&picture, 2, b".R---00---R."));
+    assert!(rt; shows(&picture, 3, b".R---00---R."));
+    assert!(rt; shows(&picture, 4, b".RRRR00RRRR."));
+    assert!(rt; shows(&picture, 5, b".....00....."));
+    assert!(rt; picture.outputs() == &outputs[..] && picture.painted() == 60);
 }
