@@ -13,7 +13,8 @@ use Rattle.desk_laws.specs.Rows.{Row, is_shown, is_hidden}
 use Rattle.desk_laws.specs.Layers.{topmost, focus_of, last_that}
 use Rattle.desk_laws.specs.Scene.{Scene, Grab, Delivery, InputOutcome}
 use Rattle.desk_laws.specs.Settle.{same_id, focus_now, hover_now, focusing, keymap, crossing, focus_told, hover_told, settled}
-use Rattle.desk_laws.specs.Events.{route, on_desktop, is_among, is_chord, move, motion, with_pointer, button, press_by, press_owner, release_by, key_by, plain_key, close_by, place_by, move_to, size_to, raise_by, restore_by, listed}
+use Rattle.desk_laws.specs.Outputs.{is_in_output}
+use Rattle.desk_laws.specs.Events.{route, is_among, is_chord, move, motion, with_pointer, button, press_by, press_owner, release_by, key_by, plain_key, close_by, place_by, move_to, size_to, raise_by, restore_by, listed}
 
 -- no more than one
 abbrev AtMostOne : List Delivery → Type 0
@@ -70,7 +71,7 @@ move-few : (setup : Setup) (p : Point) (state : ℕ) (scene : Scene) → AtMostO
 move-few setup p state scene =
     let moved : Scene = record scene { seat = with_pointer p scene.seat } in
     let before = hover_now (sizes_of setup) scene in
-    either-few (on_desktop setup p) _ _ (none-or (same_id before (hover_now (sizes_of setup) moved)) (motion before state moved) 1 (motion-few before state moved)) (omega arith)
+    either-few (is_in_output setup.outputs p) _ _ (none-or (same_id before (hover_now (sizes_of setup) moved)) (motion before state moved) 1 (motion-few before state moved)) (omega arith)
 
 owner-few : (row : Option Row) (p : Point) (code state : ℕ) (scene : Scene) → AtMostOne (press_owner row p code state scene).deliveries
 owner-few None p code state scene = omega arith

@@ -12,7 +12,8 @@ use Rattle.desk_laws.specs.Layers.{Layers, is_in, raised, topmost}
 use Rattle.desk_laws.specs.Scene.{Scene, Seat, Delivery, Grants, InputOutcome, with_deliveries, ignored}
 use Rattle.desk_laws.specs.declared.item.Item.TheVariants.{Move}
 use Rattle.desk_laws.specs.Settle.{same_id, hover_now, IsSettled}
-use Rattle.desk_laws.specs.Events.{on_desktop, with_pointer, motion, moves, move, button, grabbing, layers_pressed, press_owner}
+use Rattle.desk_laws.specs.Outputs.{is_in_output}
+use Rattle.desk_laws.specs.Events.{with_pointer, motion, moves, move, button, grabbing, layers_pressed, press_owner}
 use Rattle.input_router.specs.Deliveries.{Leads}
 use Rattle.input_router.specs.Pointed.{motion_in, moves_in, button_in}
 use Rattle.input_router.specs.Presents.{Presents, Carries}
@@ -54,8 +55,8 @@ module _ {V : Type 0} (delivers : V → Delivery → V → Type 0) (a b : V) (se
       ∙ ap (moves_in spots (Some p) state (hover_now (sizes_of setup) scene)) hover-after
       ∙ ap (λ (xs : List Delivery). if hover_stays setup p scene then xs else []) (motion-same setup.border spots (pointed p scene) is.shows state (hover_now (sizes_of setup) scene))
 
-  -- a pixel of the desktop, where the pointer comes
-  pub route-move : (last : Seat) (state : ℕ) (stays : Bool) → on_desktop setup p ≡ true
+  -- a pixel of an output, where the pointer comes
+  pub route-move : (last : Seat) (state : ℕ) (stays : Bool) → is_in_output setup.outputs p ≡ true
       → last ≡ with_pointer p seat
       → Leads delivers a (moves_in spots (Some p) state seat.hover (hover_of spots layers seat.grab (Some p))) b
       → stays ≡ same_id seat.hover (hover_of spots layers seat.grab (Some p))

@@ -13,7 +13,7 @@ use Rattle.input_router.specs.Routes.{settled_by}
 
 -- where an event is said to leave them so, the scene is settled after it: settle then tells nothing
 pub event-settled : (setup : Setup) (event : Item) (scene : Scene) → LayersFollow scene.rows scene.layers → IsSettled (sizes_of setup) scene → settled_by setup event scene ≡ true
-    → IsSettled (sizes_of setup) (perform (route setup event scene) scene).scene
+    → IsSettled (sizes_of setup) (perform setup.denied (route setup event scene) scene).scene
 event-settled setup (item.Key down code state) scene follow still said = key-settled setup scene follow still down code state
 event-settled setup (item.Move x y state) scene follow still said = moved-settled setup scene follow still x y state said
 event-settled setup other scene follow still said = absurd (cc)

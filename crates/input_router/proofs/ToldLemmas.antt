@@ -9,8 +9,9 @@ use Rattle.desk_laws.specs.declared.item.Item.TheVariants as item
 use Rattle.desk_laws.specs.declared.input.GIn.TheVariants as g
 use Rattle.desk_laws.specs.declared.row_id.RowId.{RowId}
 use Rattle.desk_laws.specs.declared.setup.Setup.{Setup}
-use Rattle.desk_laws.specs.Events.{button, close_by, grab_left, grabbing, is_among, is_chord, key_by, layers_pressed, listed, move_to, motion, moves, on_desktop, place_by, plain_key, press_by, press_owner, raise_by, release_by, released, restore_by, route, size_to, with_pointer, with_pressed_keys}
+use Rattle.desk_laws.specs.Events.{button, close_by, grab_left, grabbing, is_among, is_chord, key_by, layers_pressed, listed, move_to, motion, moves, place_by, plain_key, press_by, press_owner, raise_by, release_by, released, restore_by, route, size_to, with_pointer, with_pressed_keys}
 use Rattle.desk_laws.specs.Layers.{Layers, focus_of, last_that, topmost}
+use Rattle.desk_laws.specs.Outputs.{is_in_output}
 use Rattle.desk_laws.specs.Rows.{Row, id_of, is_hidden, is_shown}
 use Rattle.desk_laws.specs.Scene.{Asks, Delivery, Grab, Grants, InputOutcome, Pastes, Scene, Seat, ignored, with_deliveries}
 use Rattle.desk_laws.specs.Settle.{IsSettled, focus_now, hover_by, hover_now, same_id}
@@ -126,7 +127,7 @@ module _ (focus hover : Option RowId) where
   route-told setup (item.Closed guest) scene = refl
   route-told setup (item.Store guest delay page offset) scene = refl
   route-told setup (item.Key down code state) scene = told-key (focus_now scene) down code state scene
-  route-told setup (item.Move x y state) scene = told-move setup (record { x = x; y = y }) state scene (on_desktop setup (record { x = x; y = y }))
+  route-told setup (item.Move x y state) scene = told-move setup (record { x = x; y = y }) state scene (is_in_output setup.outputs (record { x = x; y = y }))
   route-told setup (item.Press true code state) scene = told-press setup scene.seat.pointer scene.seat.grab code state scene
   route-told setup (item.Press false code state) scene = told-release scene.seat.grab code state scene
   route-told setup item.Close scene = told-close (focus_now scene) scene

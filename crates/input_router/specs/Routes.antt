@@ -7,7 +7,8 @@ use Rattle.desk_laws.specs.declared.item.Item.{Item}
 use Rattle.desk_laws.specs.declared.item.Item.TheVariants as item
 use Rattle.desk_laws.specs.declared.input.GIn.TheVariants.{Place, Restored}
 use Rattle.desk_laws.specs.Sizes.{sizes_of}
-use Rattle.desk_laws.specs.Events.{on_desktop, with_pointer, listed, route}
+use Rattle.desk_laws.specs.Outputs.{is_in_output}
+use Rattle.desk_laws.specs.Events.{with_pointer, listed, route}
 use Rattle.desk_laws.specs.Layers.{Layers, is_in, raised, topmost, last_that}
 use Rattle.desk_laws.specs.Rows.{Row, id_of, row_at, is_shown, is_hidden}
 use Rattle.desk_laws.specs.Scene.{Scene, Seat, Grab, Delivery, Grants, InputOutcome}
@@ -26,9 +27,9 @@ abbrev pub HasPixel : Item → Type 0
 HasPixel (item.Move x y state) = IsPixel (record { x = x; y = y })
 HasPixel other = Unit {0}
 
--- the pixel of a Move is on the desktop
+-- the pixel of a Move is in an output
 abbrev pub StaysOn : Setup → Item → Type 0
-StaysOn setup (item.Move x y state) = IsTrue (on_desktop setup (record { x = x; y = y }))
+StaysOn setup (item.Move x y state) = IsTrue (is_in_output setup.outputs (record { x = x; y = y }))
 StaysOn setup other = Unit {0}
 
 -- a row that is grabbed is shown

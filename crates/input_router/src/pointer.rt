@@ -149,7 +149,7 @@ impl Router {
         to.grant(id, &event);
     }
 
-    // The pointer moves to this pixel of the desktop. Answers whether the hover is the one last told.
+    // The pointer moves to this pixel. Answers whether the hover is the one last told.
     pub(crate) fn point<Q: Places, V: Deliver>(
         &mut self,
         p: Point,

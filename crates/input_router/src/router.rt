@@ -103,8 +103,7 @@ impl Router {
     /// A row of the stack that isn't shown counts as hidden. What comes of it is what `route` of the
     /// definitions gives, for every setup and scene that these places, this stack and this router are
     /// those of, where the stack's rows are mapped, a row that is grabbed is shown, and the pixel of a
-    /// Move is on the desktop. The row that is raised is named each time, also where it is on top
-    /// already.
+    /// Move is in an output. The row that is raised is named each time, also where it is on top already.
     ///
     /// The rows are looked through for the focus and for the hover. Where both are those last told,
     /// `take` does the same without that.
