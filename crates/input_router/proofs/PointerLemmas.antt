@@ -56,17 +56,18 @@ module _ {V : Type 0} (delivers : V → Delivery → V → Type 0) (a b : V) (se
       ∙ ap (λ (xs : List Delivery). if hover_stays setup p scene then xs else []) (motion-same setup.border spots (pointed p scene) is.shows state (hover_now (sizes_of setup) scene))
 
   -- a pixel of an output, where the pointer comes
-  pub route-move : (last : Seat) (state : ℕ) (stays : Bool) → is_in_output setup.outputs p ≡ true
+  pub route-move : (last : Seat) (state : ℕ) (found : Option RowId) → is_in_output setup.outputs p ≡ true
       → last ≡ with_pointer p seat
       → Leads delivers a (moves_in spots (Some p) state seat.hover (hover_of spots layers seat.grab (Some p))) b
-      → stays ≡ same_id seat.hover (hover_of spots layers seat.grab (Some p))
-      → Takes delivers a b last layers layers (record { raised = None; changed = None; settled = stays }) setup (Move p.x p.y state) scene
-  route-move last state stays inside is_last told is_stays =
+      → found ≡ hover_of spots layers seat.grab (Some p)
+      → Takes delivers a b last layers layers (record { raised = None; changed = None; settled = same_id last.hover found; hover = found }) setup (Move p.x p.y state) scene
+  route-move last state found inside is_last told is_found =
       let outcome : InputOutcome = with_deliveries scene (with_pointer p scene.seat) (moves (sizes_of setup) state (hover_now (sizes_of setup) scene) (pointed p scene)) in
       let here : outcome ≡ move setup p state scene = sym (ap (λ (v : Bool). if v then outcome else ignored scene) inside) in
-      let stays' : stays ≡ hover_stays setup p scene =
-      is_stays ∙ ap (λ (h : Option RowId). same_id h (hover_of spots layers seat.grab (Some p))) hover-before
-      ∙ ap (same_id (hover_now (sizes_of setup) scene)) hover-after in
+      let found' : found ≡ hover_now (sizes_of setup) (pointed p scene) = is_found ∙ hover-after in
+      let stays : same_id last.hover found ≡ hover_stays setup p scene =
+      ap (λ (s : Seat). same_id s.hover found) is_last ∙ ap (λ (h : Option RowId). same_id h found) hover-before
+      ∙ ap (same_id (hover_now (sizes_of setup) scene)) found' in
       record {
         carries = subst (λ (o : InputOutcome). Carries delivers a b last o) here
             (record { has_seat = is_last ∙ ap (with_pointer p) (sym is.has_seat); leads = subst (λ (xs : List Delivery). Leads delivers a xs b) (told-after state) told });
@@ -74,7 +75,8 @@ module _ {V : Type 0} (delivers : V → Delivery → V → Type 0) (a b : V) (se
         raises = sym (ap (λ (o : InputOutcome). o.layers) here) ∙ is.has_layers;
         raised = refl;
         changes = sym (no-place (hover_stays setup p scene) (hover_now (sizes_of setup) scene)) ∙ ap (λ (o : InputOutcome). changed_by o.deliveries) here;
-        settled = stays';
+        settled = stays;
+        finds = found';
       }
     where
       no-place : (v : Bool) (row : Option RowId) → changed_by (if v then motion row state (pointed p scene) else []) ≡ None

@@ -18,7 +18,7 @@ use Rattle.input_router.specs.declared.walks.Wanted.TheVariants.{Normal, Hidden}
 use Rattle.input_router.specs.Commanded.{seated, raised_if, closing, restoring, place_in, placing}
 use Rattle.input_router.specs.Deliveries.{Leads}
 use Rattle.input_router.specs.Presents.{Presents, Carries}
-use Rattle.input_router.specs.Routes.{AreMapped, Raises, changed_by, raised_press, raised_by, settled_by, Presses, Takes}
+use Rattle.input_router.specs.Routes.{AreMapped, FindsHover, Raises, changed_by, raised_press, raised_by, settled_by, Presses, Takes}
 use Rattle.input_router.specs.Spots.{Spot}
 use Rattle.input_router.specs.Walks.{first_wanted, last_wanted}
 use Rattle.input_router.proofs.SceneLemmas.{focus-id, next-id, hidden-id, focus-place}
@@ -31,15 +31,16 @@ record Stays (layers : Layers) (o : InputOutcome) : Type 0 where
   no_place : changed_by o.deliveries ≡ None
 
 stays-routes : {V : Type 0} (delivers : V → Delivery → V → Type 0) (a b : V) (last : Seat) (layers : Layers) (setup : Setup) (event : Item) (scene : Scene) (stays : Bool)
-    → Carries delivers a b last (route setup event scene) → Stays layers (route setup event scene) → raised_by setup event scene ≡ None → stays ≡ settled_by setup event scene
-    → Takes delivers a b last layers layers (record { raised = None; changed = None; settled = stays }) setup event scene
-stays-routes delivers a b last layers setup event scene stays is same unraised settled = record {
+    → Carries delivers a b last (route setup event scene) → Stays layers (route setup event scene) → raised_by setup event scene ≡ None → stays ≡ settled_by setup event scene → FindsHover setup event scene None
+    → Takes delivers a b last layers layers (record { raised = None; changed = None; settled = stays; hover = None }) setup event scene
+stays-routes delivers a b last layers setup event scene stays is same unraised settled finds = record {
   carries = is;
   has_layers = sym same.has_layers;
   raises = same.has_layers;
   raised = sym unraised;
   changes = sym same.no_place;
   settled = settled;
+  finds = finds;
 }
 
 -- the focus last told is the focus
@@ -103,7 +104,7 @@ keyed-same (Some id) down code state scene = key-same id down code state scene
 pub route-key : {V : Type 0} (delivers : V → Delivery → V → Type 0) (a b : V) (setup : Setup) (spots : RowId → Option Spot) (layers : Layers) (seat last : Seat) (down : Bool) (code state : ℕ) (scene : Scene)
     → Presents setup.border spots layers seat scene → IsSettled (sizes_of setup) scene
     → Carries delivers a b last (key_by seat.focus down code state (seated seat))
-    → Takes delivers a b last layers layers (record { raised = None; changed = None; settled = true }) setup (item.Key down code state) scene
+    → Takes delivers a b last layers layers (record { raised = None; changed = None; settled = true; hover = None }) setup (item.Key down code state) scene
 route-key {V = V} delivers a b setup spots layers seat last down code state scene is still done =
     let focus = focus_now scene in
     let seated_so : Carries delivers a b last (key_by seat.focus down code state (seated scene.seat)) =
@@ -114,7 +115,7 @@ route-key {V = V} delivers a b setup spots layers seat last down code state scen
     let stays = key-stays focus down code state scene in
     stays-routes delivers a b last layers setup (item.Key down code state) scene true
     (record { has_seat = here.has_seat ∙ same.same_seat; leads = subst (λ (xs : List Delivery). Leads delivers a xs b) same.same_deliveries here.leads })
-    (record { has_layers = stays.has_layers ∙ is.has_layers; no_place = stays.no_place }) refl refl
+    (record { has_layers = stays.has_layers ∙ is.has_layers; no_place = stays.no_place }) refl refl tt
 
 -- ---- commands
 
@@ -130,14 +131,15 @@ pub record Places (setup : Setup) (event : Item) (scene : Scene) (f : Rect → R
   pub outcome : route setup event scene ≡ place_by (focus_of scene.rows scene.layers) f scene
   pub unraised : raised_by setup event scene ≡ None
   pub unsaid : settled_by setup event scene ≡ false
+  pub unfound : FindsHover setup event scene None
 
 pub route-close : {V : Type 0} (delivers : V → Delivery → V → Type 0) (a b : V) (setup : Setup) (spots : RowId → Option Spot) (layers : Layers) (seat : Seat) (focus : Option RowId) (scene : Scene)
     → Presents setup.border spots layers seat scene → IsSettled (sizes_of setup) scene → focus ≡ seat.focus
     → Leads delivers a (closing focus) b
-    → Takes delivers a b seat layers layers (record { raised = None; changed = None; settled = false }) setup item.Close scene
+    → Takes delivers a b seat layers layers (record { raised = None; changed = None; settled = false; hover = None }) setup item.Close scene
 route-close {V = V} delivers a b setup spots layers seat focus scene is still told_is told =
     let c = by_focus (focus_now scene) (subst (λ (o : Option RowId). Leads delivers a (closing o) b) (told_is ∙ focus-told setup.border spots layers seat (sizes_of setup) scene is still) told) in
-    stays-routes delivers a b seat layers setup item.Close scene false c.0 c.1 refl refl
+    stays-routes delivers a b seat layers setup item.Close scene false c.0 c.1 refl refl tt
   where
     by_focus : (o : Option RowId) → Leads delivers a (closing o) b → Carries delivers a b seat (close_by o scene) × Stays layers (close_by o scene)
     by_focus None h = (record { has_seat = sym is.has_seat; leads = h }, record { has_layers = is.has_layers; no_place = refl })
@@ -149,12 +151,12 @@ pub route-next : {V : Type 0} (delivers : V → Delivery → V → Type 0) (a : 
     → row ≡ first_wanted Normal spots layers
     → IfSome row (λ id. IsTrue (is_in layers.focus id))
     → new ≡ raised_if row layers
-    → Takes delivers a a seat layers new (record { raised = row; changed = None; settled = false }) setup item.Next scene
+    → Takes delivers a a seat layers new (record { raised = row; changed = None; settled = false; hover = None }) setup item.Next scene
 route-next {V = V} delivers a setup spots layers new seat row scene is found here is_new =
     let row_is : row ≡ option_map id_of (find (λ r. is_shown r && not r.over) (listed scene)) =
     found ∙ ap (first_wanted Normal spots) (sym is.has_layers) ∙ sym (next-id setup.border spots scene is.shows) in
     let done = by_row (find (λ r. is_shown r && not r.over) (listed scene)) row row_is here is_new in
-    record { carries = done.carries; has_layers = done.has_layers; raises = done.raises; raised = row_is; changes = done.changes; settled = refl }
+    record { carries = done.carries; has_layers = done.has_layers; raises = done.raises; raised = row_is; changes = done.changes; settled = refl; finds = tt }
   where
     by_row : (o : Option Row) (r : Option RowId) → r ≡ option_map id_of o → IfSome r (λ id. IsTrue (is_in layers.focus id)) → new ≡ raised_if r layers
         → RaisesRow delivers a a seat layers new r None (raise_by o scene)
@@ -178,12 +180,12 @@ pub route-restore : {V : Type 0} (delivers : V → Delivery → V → Type 0) (a
     → IfSome row (λ id. IsTrue (is_in layers.focus id))
     → new ≡ raised_if row layers
     → Leads delivers a (restoring row) b
-    → Takes delivers a b seat layers new (record { raised = row; changed = row; settled = false }) setup item.Restore scene
+    → Takes delivers a b seat layers new (record { raised = row; changed = row; settled = false; hover = None }) setup item.Restore scene
 route-restore {V = V} delivers a b setup spots layers new seat row scene is mapped found here is_new told =
     let row_is : row ≡ option_map id_of (last_that is_hidden (listed scene)) =
     found ∙ ap (last_wanted Hidden spots) (sym is.has_layers) ∙ sym (hidden-id setup.border spots scene is.shows mapped) in
     let done = by_row (last_that is_hidden (listed scene)) row row_is here is_new told in
-    record { carries = done.carries; has_layers = done.has_layers; raises = done.raises; raised = row_is; changes = done.changes; settled = refl }
+    record { carries = done.carries; has_layers = done.has_layers; raises = done.raises; raised = row_is; changes = done.changes; settled = refl; finds = tt }
   where
     by_row : (o : Option Row) (r : Option RowId) → r ≡ option_map id_of o → IfSome r (λ id. IsTrue (is_in layers.focus id)) → new ≡ raised_if r layers → Leads delivers a (restoring r) b
         → RaisesRow delivers a b seat layers new r r (restore_by o scene)
@@ -206,7 +208,7 @@ pub route-place : {V : Type 0} (delivers : V → Delivery → V → Type 0) (a b
     → Places setup event scene f → focus ≡ seat.focus
     → Leads delivers a (placing f (place_in spots focus)) b
     → row ≡ option_map (λ (found : RowId × Rect). found.0) (place_in spots focus)
-    → Takes delivers a b seat layers layers (record { raised = None; changed = row; settled = false }) setup event scene
+    → Takes delivers a b seat layers layers (record { raised = None; changed = row; settled = false; hover = None }) setup event scene
 route-place {V = V} delivers a b setup spots layers seat f focus row scene event is still places told_is told is_row =
     let found : place_in spots focus ≡ option_map (λ r. (id_of r, r.place)) (focus_of scene.rows scene.layers) =
     ap (place_in spots) (told_is ∙ focus-told setup.border spots layers seat (sizes_of setup) scene is still ∙ focus-id setup.border spots scene is.shows)
@@ -217,7 +219,7 @@ route-place {V = V} delivers a b setup spots layers seat f focus row scene event
     (is_row ∙ ap (option_map (λ (p : RowId × Rect). p.0)) found) in
     let here : RaisesRow delivers a b seat layers layers None row (route setup event scene) =
     subst (λ (o : InputOutcome). RaisesRow delivers a b seat layers layers None row o) (sym places.outcome) done in
-    record { carries = here.carries; has_layers = here.has_layers; raises = here.raises; raised = sym places.unraised; changes = here.changes; settled = sym places.unsaid }
+    record { carries = here.carries; has_layers = here.has_layers; raises = here.raises; raised = sym places.unraised; changes = here.changes; settled = sym places.unsaid; finds = places.unfound }
   where
     by_row : (o : Option Row) → Leads delivers a (placing f (option_map (λ r. (id_of r, r.place)) o)) b
         → row ≡ option_map (λ (p : RowId × Rect). p.0) (option_map (λ r. (id_of r, r.place)) o)
@@ -255,7 +257,7 @@ release-done {V = V} delivers a b setup spots layers seat last down code state s
 
 pub route-press : {V : Type 0} (delivers : V → Delivery → V → Type 0) (a b : V) (setup : Setup) (before after : Layers) (last : Seat) (down : Bool) (code state : ℕ) (row : Option RowId) (scene : Scene)
     → Presses delivers a b last before after row (raised_press setup down scene) (press setup down code state scene)
-    → Takes delivers a b last before after (record { raised = row; changed = None; settled = false }) setup (item.Press down code state) scene
+    → Takes delivers a b last before after (record { raised = row; changed = None; settled = false; hover = None }) setup (item.Press down code state) scene
 route-press delivers a b setup before after last down code state row scene is = record {
   carries = is.carries;
   has_layers = is.has_layers;
@@ -263,6 +265,7 @@ route-press delivers a b setup before after last down code state row scene is = 
   raised = is.raised;
   changes = sym is.no_place;
   settled = refl;
+  finds = tt;
 }
 
 -- ---- all of them

@@ -13,6 +13,7 @@ use Rattle.desk_laws.specs.Settle.{focus_now, hover_now, hover_by, content_owner
 use Rattle.input_router.specs.declared.walks.Wanted.TheVariants.{Normal}
 use Rattle.input_router.specs.Deliveries.{Leads}
 use Rattle.input_router.specs.Presents.{Presents, Carries}
+use Rattle.input_router.specs.Routes.{HoldsShown}
 use Rattle.input_router.specs.Seated.{kept_grab, hover_of, from_spot, crossed, hover_moved}
 use Rattle.input_router.specs.Spots.{Spot, spot_of, Shows, has_content, is_shown_at}
 use Rattle.input_router.specs.Walks.{passing, top_of, owner_of, last_wanted}
@@ -72,40 +73,66 @@ module _ (border : ℕ) (spots : RowId → Option Spot) (scene : Scene) (shows :
       ap (λ xs. if same_id old new then [] else xs ++ crossed spots focus scene.seat.pointer true new) (crossed-same focus false old e)
       ∙ ap (λ xs. if same_id old new then [] else crossing false old scene ++ xs) (crossed-same focus true new e)
 
--- a grab was checked, focus and hover were looked for and told, and then noted
-pub settle-done : {V : Type 0} (delivers : V → Delivery → V → Type 0) (a m b : V) (sizes : Sizes) (spots : RowId → Option Spot) (layers : Layers) (seat kept last : Seat) (focus hover : Option RowId) (scene : Scene)
+-- focus and hover of a scene whose grab was checked were told, and then noted
+told-done : {V : Type 0} (delivers : V → Delivery → V → Type 0) (a b : V) (sizes : Sizes) (spots : RowId → Option Spot) (layers : Layers) (kept last : Seat) (focus hover : Option RowId) (scene : Scene)
+    → Shows sizes.border spots scene → scene.layers ≡ layers
+    → kept ≡ (grab_checked scene).seat
+    → focus ≡ last_wanted Normal spots layers
+    → hover ≡ hover_now sizes (grab_checked scene)
+    → last ≡ settled_seat focus hover kept
+    → Leads delivers a (focus_told kept.focus focus ++ hover_moved spots focus kept.pointer kept.hover hover) b
+    → Carries delivers a b last (settled sizes (grab_checked scene))
+told-done {V = V} delivers a b sizes spots layers kept last focus hover scene shows has_layers is_kept is_focus is_hover is_last told =
+    let checked : Scene = grab_checked scene in
+    let border = sizes.border in
+    let focus' : focus ≡ focus_now checked =
+    is_focus ∙ ap (last_wanted Normal spots) (sym has_layers) ∙ sym (focus-id border spots checked shows) in
+    let told_focus : focus_told kept.focus focus ≡ focus_told checked.seat.focus (focus_now checked) =
+    ap (λ (s : Seat). focus_told s.focus focus) is_kept ∙ ap (focus_told checked.seat.focus) focus' in
+    let told_hover : hover_moved spots focus kept.pointer kept.hover hover ≡ hover_told checked.seat.hover (hover_now sizes checked) checked =
+    ap (λ (s : Seat). hover_moved spots focus s.pointer s.hover hover) is_kept
+    ∙ hover-told border spots checked shows focus checked.seat.hover hover focus'
+    ∙ ap (λ (h : Option RowId). hover_told checked.seat.hover h checked) is_hover in
+    record {
+      has_seat =
+          is_last ∙ ap (λ (s : Seat). settled_seat focus hover s) is_kept ∙ ap (λ (f : Option RowId). settled_seat f hover checked.seat) focus'
+          ∙ ap (λ (h : Option RowId). settled_seat (focus_now checked) h checked.seat) is_hover;
+      leads =
+          subst (λ (xs : List Delivery). Leads delivers a xs b)
+          (ap (λ (xs : List Delivery). xs ++ hover_moved spots focus kept.pointer kept.hover hover) told_focus
+          ∙ ap (λ (xs : List Delivery). focus_told checked.seat.focus (focus_now checked) ++ xs) told_hover) told;
+    }
+
+-- a grab was checked, and focus and hover were looked for
+pub settle-done : {V : Type 0} (delivers : V → Delivery → V → Type 0) (a b : V) (sizes : Sizes) (spots : RowId → Option Spot) (layers : Layers) (seat kept last : Seat) (focus hover : Option RowId) (scene : Scene)
     → Presents sizes.border spots layers seat scene
     → kept ≡ record seat { grab = kept_grab spots seat.grab }
     → focus ≡ last_wanted Normal spots layers
     → hover ≡ hover_of spots layers kept.grab kept.pointer
-    → Leads delivers a (focus_told kept.focus focus) m
-    → Leads delivers m (hover_moved spots focus kept.pointer kept.hover hover) b
     → last ≡ settled_seat focus hover kept
+    → Leads delivers a (focus_told kept.focus focus ++ hover_moved spots focus kept.pointer kept.hover hover) b
     → Carries delivers a b last (settled sizes (grab_checked scene))
-settle-done {V = V} delivers a m b sizes spots layers seat kept last focus hover scene p is_kept is_focus is_hover first next is_last =
+settle-done delivers a b sizes spots layers seat kept last focus hover scene p is_kept is_focus is_hover is_last told =
     let checked : Scene = grab_checked scene in
     let border = sizes.border in
     let kept' : kept ≡ checked.seat =
     is_kept ∙ ap (λ (s : Seat). record s { grab = kept_grab spots s.grab }) (sym p.has_seat)
     ∙ ap (λ (grab : Option Grab). record scene.seat { grab = grab }) (grab-same border spots scene p.shows scene.seat.grab) in
-    let focus' : focus ≡ focus_now checked =
-    is_focus ∙ ap (last_wanted Normal spots) (sym p.has_layers) ∙ sym (focus-id border spots checked p.shows) in
     let hover' : hover ≡ hover_now sizes checked =
     is_hover ∙ ap (λ (l : Layers). hover_of spots l kept.grab kept.pointer) (sym p.has_layers)
     ∙ ap (λ (s : Seat). hover_of spots scene.layers s.grab s.pointer) kept'
     ∙ hover-same border spots checked p.shows sizes refl checked.seat.grab checked.seat.pointer in
-    let told_focus : focus_told kept.focus focus ≡ focus_told checked.seat.focus (focus_now checked) =
-    ap (λ (s : Seat). focus_told s.focus focus) kept' ∙ ap (focus_told checked.seat.focus) focus' in
-    let told_hover : hover_moved spots focus kept.pointer kept.hover hover ≡ hover_told checked.seat.hover (hover_now sizes checked) checked =
-    ap (λ (s : Seat). hover_moved spots focus s.pointer s.hover hover) kept'
-    ∙ hover-told border spots checked p.shows focus checked.seat.hover hover focus'
-    ∙ ap (λ (h : Option RowId). hover_told checked.seat.hover h checked) hover' in
-    record {
-      has_seat =
-          is_last ∙ ap (λ (s : Seat). settled_seat focus hover s) kept' ∙ ap (λ (f : Option RowId). settled_seat f hover checked.seat) focus'
-          ∙ ap (λ (h : Option RowId). settled_seat (focus_now checked) h checked.seat) hover';
-      leads =
-          leads-both delivers a m b _ _
-          (subst (λ (xs : List Delivery). Leads delivers a xs m) told_focus first)
-          (subst (λ (xs : List Delivery). Leads delivers m xs b) told_hover next);
-    }
+    told-done delivers a b sizes spots layers kept last focus hover scene p.shows p.has_layers kept' is_focus hover' is_last told
+
+-- a row that is grabbed is shown, the hover was known, and the focus was looked for
+pub settle-at-done : {V : Type 0} (delivers : V → Delivery → V → Type 0) (a b : V) (sizes : Sizes) (spots : RowId → Option Spot) (layers : Layers) (seat last : Seat) (focus hover : Option RowId) (scene : Scene)
+    → Presents sizes.border spots layers seat scene → HoldsShown scene
+    → focus ≡ last_wanted Normal spots layers
+    → hover ≡ hover_now sizes scene
+    → last ≡ settled_seat focus hover seat
+    → Leads delivers a (focus_told seat.focus focus ++ hover_moved spots focus seat.pointer seat.hover hover) b
+    → Carries delivers a b last (settled sizes (grab_checked scene))
+settle-at-done delivers a b sizes spots layers seat last focus hover scene p holds is_focus is_hover is_last told =
+    let same : scene ≡ grab_checked scene = ap (λ (grab : Option Grab). record scene { seat = record scene.seat { grab = grab } }) (sym holds) in
+    told-done delivers a b sizes spots layers seat last focus hover scene p.shows p.has_layers
+    (sym p.has_seat ∙ ap (λ (s : Scene). s.seat) same) is_focus (is_hover ∙ ap (hover_now sizes) same) is_last told

@@ -92,6 +92,13 @@ settled_by setup (item.Key down code state) scene = true
 settled_by setup (item.Move x y state) scene = hover_stays setup (record { x = x; y = y }) scene
 settled_by setup other scene = false
 
+-- ---- the hover that is found
+
+-- for a Move the hover with the pointer at its pixel; of other events it isn't said
+abbrev pub FindsHover : Setup → Item → Scene → Option RowId → Type 0
+FindsHover setup (item.Move x y state) scene hover = hover ≡ hover_now (sizes_of setup) (pointed (record { x = x; y = y }) scene)
+FindsHover setup other scene hover = Unit {0}
+
 -- ---- what is done
 
 -- what a button does and the row that it raises, which is this one: no place is changed
@@ -103,7 +110,7 @@ pub record Presses {V : Type 0} (delivers : V → Delivery → V → Type 0) (fi
   pub no_place : changed_by outcome.deliveries ≡ None
 
 -- seat, layers and deliveries are those of the event's outcome, and what is answered is the row that it raises, the one
--- whose place or flags it changes, and whether focus and hover stay
+-- whose place or flags it changes, whether focus and hover stay, and the hover that a Move finds
 pub record Takes {V : Type 0} (delivers : V → Delivery → V → Type 0) (first last : V) (seat : Seat) (before after : Layers) (taken : Taken) (setup : Setup) (event : Item) (scene : Scene) : Type 0 where
   pub carries : Carries delivers first last seat (route setup event scene)
   pub has_layers : after ≡ (route setup event scene).layers
@@ -111,8 +118,9 @@ pub record Takes {V : Type 0} (delivers : V → Delivery → V → Type 0) (firs
   pub raised : taken.raised ≡ raised_by setup event scene
   pub changes : taken.changed ≡ changed_by (route setup event scene).deliveries
   pub settled : taken.settled ≡ settled_by setup event scene
+  pub finds : FindsHover setup event scene taken.hover
 
--- the same, of which it isn't told whether focus and hover stay
+-- the same, of which it isn't told whether focus and hover stay, nor what a Move finds
 pub record Routes {V : Type 0} (delivers : V → Delivery → V → Type 0) (first last : V) (seat : Seat) (before after : Layers) (routed : Routed) (setup : Setup) (event : Item) (scene : Scene) : Type 0 where
   pub carries : Carries delivers first last seat (route setup event scene)
   pub has_layers : after ≡ (route setup event scene).layers

@@ -8,7 +8,7 @@ use desk_laws::{GIn, RowId};
 ///
 /// What a delivery does is up to each deliverer, and is said by its relation `delivers`. A function
 /// that delivers a list leads from the old deliverer to the new one by `delivers` over that list, in
-/// order. `route` delivers one thing at most, and `settle` five.
+/// order. `route` and `take` deliver one thing at most, `settle` and `settle_at` five.
 pub trait Deliver {
     /// The deliverer before a delivery, the delivery, and the deliverer after it.
     ghost delivers: { Self → Delivery → Self → Type 0 };

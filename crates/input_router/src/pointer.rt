@@ -4,7 +4,6 @@ ghost use Rattle.desk_laws.specs.declared.setup.Setup.{Setup};
 ghost use Rattle.desk_laws.specs.Events.{grabbing, with_pointer, press, press_by, press_owner, press_row, release_by};
 ghost use Rattle.desk_laws.specs.Layers.{is_in, raised, topmost};
 ghost use Rattle.desk_laws.specs.Scene.{Scene};
-ghost use Rattle.desk_laws.specs.Settle.{same_id};
 ghost use Rattle.desk_laws.specs.Ranges.{IsPlace};
 ghost use Rattle.input_router.specs.Deliveries.{Leads};
 ghost use Rattle.input_router.specs.Pointed.{motion_in, moves_in, button_in, more_held};
@@ -149,7 +148,8 @@ impl Router {
         to.grant(id, &event);
     }
 
-    // The pointer moves to this pixel. Answers whether the hover is the one last told.
+    // The pointer moves to this pixel. Answers the row that has the hover there, which is told of the move
+    // where it had the hover before.
     pub(crate) fn point<Q: Places, V: Deliver>(
         &mut self,
         p: Point,
@@ -157,18 +157,18 @@ impl Router {
         stack: &Stacking,
         places: &Q,
         to: &mut V,
-    ) -> bool
+    ) -> Option<RowId>
         requires { IsPixel p }
         ensures seat { self.new ≡ with_pointer p self.old }
         ensures leads { Leads V.delivers to.old (moves_in (Q.spots places.now) (Some p) state self.old.hover (hover_of (Q.spots places.now) stack.now.layers self.old.grab (Some p))) to.new }
-        ensures is { result ≡ same_id self.old.hover (hover_of (Q.spots places.now) stack.now.layers self.old.grab (Some p)) }
+        ensures is { result ≡ hover_of (Q.spots places.now) stack.now.layers self.old.grab (Some p) }
     {
         self.put_pointer(p);
-        if !same(self.hover, self.hover_now(stack, places)) {
-            return false;
+        let hover = self.hover_now(stack, places);
+        if same(self.hover, hover) {
+            self.tell_motion(state, places, to);
         }
-        self.tell_motion(state, places, to);
-        true
+        hover
     }
 
     // Grabs a row whose content has the pixel, and tells it of the button.

@@ -2,7 +2,7 @@
 ghost use Rattle.std.specs.Prelude.{◌≡◌, None, false};
 ghost use Rattle.desk_laws.specs.declared.setup.Setup.{Setup};
 ghost use Rattle.desk_laws.specs.Scene.{Scene, idle_seat};
-ghost use Rattle.desk_laws.specs.Settle.{IsSettled};
+ghost use Rattle.desk_laws.specs.Settle.{IsSettled, same_id};
 ghost use Rattle.desk_laws.specs.Sizes.{sizes_of};
 ghost use Rattle.input_router.specs.Presents.{Presents};
 ghost use Rattle.input_router.specs.Routes.{AreMapped, HasPixel, HoldsShown, StaysOn, Routes, Takes, told};
@@ -11,6 +11,7 @@ use crate::codes::Codes;
 use crate::commands::{close_focus, move_focus, raise_next, restore_last, size_focus};
 use crate::deliver::Deliver;
 use crate::places::Places;
+use crate::settle::same;
 use crate::walks::{Wanted, last_listed};
 use desk_laws::{Item, RowId};
 use gui_num::Point;
@@ -51,13 +52,16 @@ pub struct Routed {
     pub changed: Option<RowId>,
 }
 
-/// The same, and whether focus and hover are still those last told: `true` for a key, and for a move in
-/// which the hover stays; of other events it isn't told.
+/// The same, whether focus and hover are still those last told, and the hover that a move found.
 #[derive(Clone, Copy, Debug, PartialEq, Eq)]
 pub struct Taken {
     pub raised: Option<RowId>,
     pub changed: Option<RowId>,
+    /// Whether focus and hover are still those last told: `true` for a key, and for a move in which the
+    /// hover stays; of other events it isn't told.
     pub settled: bool,
+    /// For a move the row that the hover is then; of other events it isn't told.
+    pub hover: Option<RowId>,
 }
 
 impl Router {
@@ -97,6 +101,18 @@ impl Router {
         self.hover = hover;
     }
 
+    // What came of a move after which the hover is this one.
+    fn moved(&self, hover: Option<RowId>) -> Taken
+        ensures { result ≡ record { raised = None; changed = None; settled = same_id self.now.hover hover; hover = hover } }
+    {
+        Taken {
+            raised: None,
+            changed: None,
+            settled: same(self.hover, hover),
+            hover,
+        }
+    }
+
     /// Takes an event of the user: changes the stack, and tells the rows what is for them. An item that
     /// is no such event does nothing. No memory is taken.
     ///
@@ -134,7 +150,8 @@ impl Router {
 
     /// Does what `route` does where the focus and the hover of this moment are those last told, as
     /// `settle` leaves them: a key and the commands for the focus look through no rows, and a move once.
-    /// Answers besides whether both are still those last told, so that `settle` has nothing to tell.
+    /// Answers besides whether both are still those last told, so that `settle` has nothing to tell, and
+    /// the hover that a move found, so that `settle_at` need not look for it.
     pub fn take<Q: Places, V: Deliver>(
         &mut self,
         item: &Item,
@@ -154,7 +171,8 @@ impl Router {
                 unraised(true)
             }
             Item::Move { x, y, state } => {
-                unraised(self.point(Point { x, y }, state, stack, places, to))
+                let hover = self.point(Point { x, y }, state, stack, places, to);
+                self.moved(hover)
             }
             Item::Press {
                 down,
@@ -179,22 +197,24 @@ impl Router {
 
 // The row that was raised, and the one whose place or flags were changed.
 fn named(raised: Option<RowId>, changed: Option<RowId>) -> Taken
-    ensures { result ≡ record { raised = raised; changed = changed; settled = false } }
+    ensures { result ≡ record { raised = raised; changed = changed; settled = false; hover = None } }
 {
     Taken {
         raised,
         changed,
         settled: false,
+        hover: None,
     }
 }
 
 // No row was raised or changed.
 fn unraised(settled: bool) -> Taken
-    ensures { result ≡ record { raised = None; changed = None; settled = settled } }
+    ensures { result ≡ record { raised = None; changed = None; settled = settled; hover = None } }
 {
     Taken {
         raised: None,
         changed: None,
         settled,
+        hover: None,
     }
 }

@@ -1,10 +1,11 @@
 // Focus and hover are told to the rows where they are others than those last told.
-ghost use Rattle.std.specs.Prelude.{◌≡◌, IfSome};
+ghost use Rattle.std.specs.Prelude.{◌≡◌, ◌++◌, IfSome};
 ghost use Rattle.desk_laws.specs.Scene.{Scene};
-ghost use Rattle.desk_laws.specs.Settle.{same_id, focusing, keymap, focus_told, settled_seat, settled, grab_checked};
+ghost use Rattle.desk_laws.specs.Settle.{same_id, hover_now, focusing, keymap, focus_told, settled_seat, settled, grab_checked};
 ghost use Rattle.desk_laws.specs.Sizes.{Sizes};
 ghost use Rattle.input_router.specs.Deliveries.{Leads};
 ghost use Rattle.input_router.specs.Presents.{Presents, Carries};
+ghost use Rattle.input_router.specs.Routes.{HoldsShown};
 ghost use Rattle.input_router.specs.SeatView.{IsPixel};
 ghost use Rattle.input_router.specs.Seated.{crossed, hover_moved};
 
@@ -118,6 +119,23 @@ impl Router {
         self.hover = hover;
     }
 
+    // Tells the rows of this focus and this hover, where they are others than those last told, and notes
+    // them.
+    fn tell_now<Q: Places, V: Deliver>(
+        &mut self,
+        focus: Option<RowId>,
+        hover: Option<RowId>,
+        places: &Q,
+        to: &mut V,
+    )
+        ensures seat { self.new ≡ settled_seat focus hover self.old }
+        ensures leads { Leads V.delivers to.old (focus_told self.old.focus focus ++ hover_moved (Q.spots places.now) focus self.old.pointer self.old.hover hover) to.new }
+    {
+        self.tell_focus(focus, to);
+        self.tell_hover(hover, focus, places, to);
+        self.note_told(focus, hover);
+    }
+
     /// Ends a grab whose row isn't shown, and then tells the rows of the focus and the hover of this
     /// moment, where they are others than those last told: FocusOut to the old focus, FocusIn and the
     /// state of the keyboard to the new one, Leave to the old hover and Enter to the new one. Where the
@@ -127,10 +145,26 @@ impl Router {
             → Carries V.delivers to.old to.new self.new (settled sizes (grab_checked scene)) }
     {
         self.check_grab(places);
+        let focus_now = last_listed(stack, places, Wanted::Normal);
+        let hover_now = self.hover_now(stack, places);
+        self.tell_now(focus_now, hover_now, places, to);
+    }
+
+    /// Does what `settle` does where the hover of this moment is known, as `take` answers it for a move,
+    /// and a row that is grabbed is shown: the rows are looked through for the focus alone. No memory is
+    /// taken.
+    pub fn settle_at<Q: Places, V: Deliver>(
+        &mut self,
+        hover: Option<RowId>,
+        stack: &Stacking,
+        places: &Q,
+        to: &mut V,
+    )
+        ensures { (sizes : Sizes) (scene : Scene) → Presents sizes.border (Q.spots places.now) stack.now.layers self.old scene
+            → HoldsShown scene → hover ≡ hover_now sizes scene
+            → Carries V.delivers to.old to.new self.new (settled sizes (grab_checked scene)) }
+    {
         let focus = last_listed(stack, places, Wanted::Normal);
-        let hover = self.hover_now(stack, places);
-        self.tell_focus(focus, to);
-        self.tell_hover(hover, focus, places, to);
-        self.note_told(focus, hover);
+        self.tell_now(focus, hover, places, to);
     }
 }

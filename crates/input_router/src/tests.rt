@@ -285,6 +285,13 @@ impl Desk {
         self.log.take()
     }
 
+    // Settles with this hover, and answers what was told.
+    fn settle_at(&mut self, hover: Option<RowId>) -> [Told; 6] {
+        self.router
+            .settle_at(hover, &self.stack, &self.rows, &mut self.log);
+        self.log.take()
+    }
+
     fn point(&mut self, x: i32, y: i32) -> [Told; 6]
         requires { IsPixel (record { x = x; y = y }) }
     {
@@ -373,6 +380,17 @@ fn came(raised: Option<RowId>, settled: bool) -> Taken {
         raised,
         changed: None,
         settled,
+        hover: None,
+    }
+}
+
+// What came of a move that found this hover.
+fn found(hover: Option<RowId>, settled: bool) -> Taken {
+    Taken {
+        raised: None,
+        changed: None,
+        settled,
+        hover,
     }
 }
 
@@ -388,8 +406,8 @@ fn click(desk: &mut Desk) -> Taken {
     pressed
 }
 
-// A row is named each time that it is raised, also where it is on top; a move is settled where the hover
-// stays.
+// A row is named each time that it is raised, also where it is on top; a move answers the hover that it
+// finds, and is settled where that stays.
 #[test]
 fn what_came_of_events(rt: HostRuntime) -> Result<(), NoMemory> {
     let mut desk = Desk::new(rt.alloc())?;
@@ -399,9 +417,9 @@ fn what_came_of_events(rt: HostRuntime) -> Result<(), NoMemory> {
         y: 15,
         state: 0,
     };
-    assert_eq!(rt; desk.taken(enters), came(None, false));
+    assert_eq!(rt; desk.taken(enters), found(Some(B), false));
     desk.settle();
-    assert_eq!(rt; desk.taken(enters), came(None, true));
+    assert_eq!(rt; desk.taken(enters), found(Some(B), true));
     assert_eq!(rt; click(&mut desk), came(Some(B), false));
     assert_eq!(rt; click(&mut desk), came(Some(B), false));
     assert_eq!(rt; desk.taken(Item::Next), came(Some(A), false));
@@ -411,6 +429,39 @@ fn what_came_of_events(rt: HostRuntime) -> Result<(), NoMemory> {
         state: 0,
     };
     assert_eq!(rt; desk.taken(key), came(None, true));
+    Ok(())
+}
+
+// The pointer goes from B to A and then to neither, and each time the hover that was found is told.
+#[test]
+fn the_hover_that_a_move_found(rt: HostRuntime) -> Result<(), NoMemory> {
+    let mut desk = Desk::new(rt.alloc())?;
+    desk.point(25, 15);
+    desk.settle();
+    let to_a = desk.taken(Item::Move {
+        x: 12,
+        y: 11,
+        state: 0,
+    });
+    assert_eq!(rt; to_a, found(Some(A), false));
+    assert_eq!(rt;
+        desk.settle_at(to_a.hover),
+        only(&[
+            crossing(B, false, -8, -1, false),
+            crossing(A, true, 2, 1, true)
+        ])
+    );
+    let away = desk.taken(Item::Move {
+        x: 12,
+        y: 40,
+        state: 0,
+    });
+    assert_eq!(rt; away, found(None, false));
+    assert_eq!(rt;
+        desk.settle_at(away.hover),
+        only(&[crossing(A, false, 2, 30, true)])
+    );
+    assert_eq!(rt; desk.router.hover(), None);
     Ok(())
 }
 

@@ -28,12 +28,13 @@ pub(crate) fn has_content<Q: Places>(places: &Q, id: RowId, p: Point) -> bool
     }
 }
 
-// Whether a row is shown, and its content or its border has the pixel.
+// Whether a row is shown, and its content or its border has the pixel. Of most rows the place says no, and
+// nothing else is asked.
 fn is_under<Q: Places>(places: &Q, id: RowId, p: Point) -> bool
     ensures { result ≡ is_under p (Q.spots places.now id) }
 {
     match places.outer(id) {
-        Some(outer) => places.shown(id) && has(outer, p),
+        Some(outer) => has(outer, p) && places.shown(id),
         None => false,
     }
 }

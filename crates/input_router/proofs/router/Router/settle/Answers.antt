@@ -3,6 +3,6 @@ use Rattle.input_router.proofs.router.Router.settle.Goals as goal
 
 pub returns : goal.returns
 returns g c = λ sizes scene p.
-    settle-done g.V.Deliver.delivers c.args.to.now c.tell_focus.new.to c.tell_hover.new.to sizes (g.Q.Places.spots c.args.places.now) c.args.stack.now.layers
-    c.args.self.now c.check_grab.new.self c.note_told.new.self c.last_listed-focus.result c.hover_now-hover.result scene p
-    c.check_grab.ensures c.last_listed-focus.ensures.is c.hover_now-hover.ensures c.tell_focus.ensures c.tell_hover.ensures c.note_told.ensures
+    settle-done g.V.Deliver.delivers c.args.to.now c.tell_now.new.to sizes (g.Q.Places.spots c.args.places.now) c.args.stack.now.layers
+    c.args.self.now c.check_grab.new.self c.tell_now.new.self c.last_listed-focus_now.result c.hover_now-hover_now.result scene p
+    c.check_grab.ensures c.last_listed-focus_now.ensures.is c.hover_now-hover_now.ensures c.tell_now.ensures.seat c.tell_now.ensures.leads

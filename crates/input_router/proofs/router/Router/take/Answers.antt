@@ -17,13 +17,13 @@ pub returns-in-Move-clause-takes : goal.returns-in-Move-clause-takes
 returns-in-Move-clause-takes g c = λ setup scene is mapped still stays.
     let x : SFits w32 c.in-Move.x = search rules in
     let y : SFits w32 c.in-Move.y = search rules in
-    let seat = simp to_z-of_z at c.point.ensures.seat in
-    let told = simp to_z-of_z at c.point.ensures.leads in
-    let same = simp to_z-of_z at c.point.ensures.is in
-    at-item _ _ _ _ _ _ setup scene _ _ _ _ c.in-Move.is c.unraised-in-Move.ensures
-    (route-move g.V.Deliver.delivers c.args.to.now c.point.new.to setup (g.Q.Places.spots c.args.places.now) c.args.stack.now.layers
-    c.args.self.now (record { x = c.in-Move.x; y = c.in-Move.y }) scene is still c.point.new.self c.in-Move.state c.point.result
-    (subst (StaysOn setup) c.in-Move.is stays) seat told same)
+    let seat = simp to_z-of_z at c.point-hover.ensures.seat in
+    let told = simp to_z-of_z at c.point-hover.ensures.leads in
+    let found = simp to_z-of_z at c.point-hover.ensures.is in
+    at-item _ _ _ _ _ _ setup scene _ _ _ _ c.in-Move.is c.moved.ensures
+    (route-move g.V.Deliver.delivers c.args.to.now c.point-hover.new.to setup (g.Q.Places.spots c.args.places.now) c.args.stack.now.layers
+    c.args.self.now (record { x = c.in-Move.x; y = c.in-Move.y }) scene is still c.point-hover.new.self c.in-Move.state c.point-hover.result
+    (subst (StaysOn setup) c.in-Move.is stays) seat told found)
 
 pub returns-in-Press-clause-takes : goal.returns-in-Press-clause-takes
 returns-in-Press-clause-takes g c = λ setup scene is mapped still stays.
@@ -54,15 +54,15 @@ returns-in-MoveTo-clause-takes g c = λ setup scene is mapped still stays.
     let x : SFits w32 c.in-MoveTo.x = search rules in
     let y : SFits w32 c.in-MoveTo.y = search rules in
     let told = simp to_z-of_z at c.move_focus.ensures.leads in
-    at-item _ _ _ _ _ _ setup scene _ _ _ (record { raised = None; changed = c.move_focus.result; settled = false }) c.in-MoveTo.is c.named-in-MoveTo.ensures
+    at-item _ _ _ _ _ _ setup scene _ _ _ (record { raised = None; changed = c.move_focus.result; settled = false; hover = None }) c.in-MoveTo.is c.named-in-MoveTo.ensures
     (route-place g.V.Deliver.delivers c.args.to.now c.move_focus.new.to setup (g.Q.Places.spots c.args.places.now) c.args.stack.now.layers
-    c.args.self.now (move_to c.in-MoveTo.x c.in-MoveTo.y) c.focus-in-MoveTo.result c.move_focus.result scene (MoveTo c.in-MoveTo.x c.in-MoveTo.y) is still (record { outcome = refl; unraised = refl; unsaid = refl }) c.focus-in-MoveTo.ensures told c.move_focus.ensures.is)
+    c.args.self.now (move_to c.in-MoveTo.x c.in-MoveTo.y) c.focus-in-MoveTo.result c.move_focus.result scene (MoveTo c.in-MoveTo.x c.in-MoveTo.y) is still (record { outcome = refl; unraised = refl; unsaid = refl; unfound = tt }) c.focus-in-MoveTo.ensures told c.move_focus.ensures.is)
 
 pub returns-in-SizeTo-clause-takes : goal.returns-in-SizeTo-clause-takes
 returns-in-SizeTo-clause-takes g c = λ setup scene is mapped still stays.
     let w : SFits w32 c.in-SizeTo.w = search rules in
     let h : SFits w32 c.in-SizeTo.h = search rules in
     let told = simp to_z-of_z at c.size_focus.ensures.leads in
-    at-item _ _ _ _ _ _ setup scene _ _ _ (record { raised = None; changed = c.size_focus.result; settled = false }) c.in-SizeTo.is c.named-in-SizeTo.ensures
+    at-item _ _ _ _ _ _ setup scene _ _ _ (record { raised = None; changed = c.size_focus.result; settled = false; hover = None }) c.in-SizeTo.is c.named-in-SizeTo.ensures
     (route-place g.V.Deliver.delivers c.args.to.now c.size_focus.new.to setup (g.Q.Places.spots c.args.places.now) c.args.stack.now.layers
-    c.args.self.now (size_to c.in-SizeTo.w c.in-SizeTo.h) c.focus-in-SizeTo.result c.size_focus.result scene (SizeTo c.in-SizeTo.w c.in-SizeTo.h) is still (record { outcome = refl; unraised = refl; unsaid = refl }) c.focus-in-SizeTo.ensures told c.size_focus.ensures.is)
+    c.args.self.now (size_to c.in-SizeTo.w c.in-SizeTo.h) c.focus-in-SizeTo.result c.size_focus.result scene (SizeTo c.in-SizeTo.w c.in-SizeTo.h) is still (record { outcome = refl; unraised = refl; unsaid = refl; unfound = tt }) c.focus-in-SizeTo.ensures told c.size_focus.ensures.is)
