@@ -25,7 +25,7 @@ pub record FoundClip (old new : SessionView) (f : Front) : Type 0 where
   pub behind : List ℕ
   pub takes : f ≡ Takes (Whole header body) behind
   pub clip : header.kind ≡ 140
-  pub short : length body ≤ 65000
+  pub short : length body ≤ old.sizes.clip_limit
   pub same : new ≡ old
 
 kept-by : (b : Bool) → ClipWhole ≡ cond b ClipWhole ClipOver → b ≡ true
@@ -47,7 +47,7 @@ module _ {O : Type 0} (takes : O → Post → O → Type 0) (out out' : O) (port
     behind = behind;
     takes = refl;
     clip = eqb-true header.kind 140 kind;
-    short = leb-true (length body) 65000 (kept-by (nat_le (length body) 65000) (sym is ∙ done.answer));
+    short = leb-true (length body) old.sizes.clip_limit (kept-by (nat_le (length body) old.sizes.clip_limit) (sym is ∙ done.answer));
     same = done.stays.session;
   }
   clip-by turn header body behind false kind done is =
@@ -61,9 +61,9 @@ module _ {O : Type 0} (takes : O → Post → O → Type 0) (out out' : O) (port
   turn-found turn (Takes (Whole header body) behind) done is = clip-by turn header body behind (header.kind == 140) refl done is
 
 -- a session shows the clipboard data that its turn found
-pub found-kept : (old new : SessionView) (rest : List ℕ) → StandsFor old.stream rest → FoundClip old new (front old.stream.greeted rest) → HasKeptClip new.stream
+pub found-kept : (old new : SessionView) (rest : List ℕ) → StandsFor old.stream rest → FoundClip old new (front old.stream.greeted rest) → HasKeptClip new.sizes.clip_limit new.stream
 found-kept old new rest stands found =
-    let P : SessionView → Type 0 = λ s. HasKeptClip s.stream in
+    let P : SessionView → Type 0 = λ s. HasKeptClip s.sizes.clip_limit s.stream in
     subst P (sym found.same)
     (found.header, (found.body, (record { rest = rest; behind = found.behind; stands = stands; takes = found.takes; clip = found.clip }, found.short)))
 
@@ -109,6 +109,11 @@ turn-kept takes out out' port port' old new turn goes over = by old.ended refl
 -- so a port with frames for the guest has them afterwards
 pub still-below : (old new : SessionView) (n n' : ℕ) → Kept old new → n' ≡ n → old.guest < n → new.guest < n'
 still-below old new n n' kept same below = omega (arith, kept.guest, same, below)
+
+pub still-room : (old new : SessionView) (n : ℕ) → Kept old new → n ≤ old.sizes.clip_limit → n ≤ new.sizes.clip_limit
+still-room old new n kept room =
+    let P : Sizes → Type 0 = λ s. n ≤ s.clip_limit in
+    subst P (sym kept.sizes) room
 
 pub still-as_many : (old new : SessionView) (n n' : ℕ) → Kept old new → n' ≡ n → n ≡ old.sizes.pages → n' ≡ new.sizes.pages
 still-as_many old new n n' kept same is = same ∙ is ∙ ap (λ (s : Sizes). s.pages) (sym kept.sizes)

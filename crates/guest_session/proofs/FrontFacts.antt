@@ -65,13 +65,13 @@ kept-by true h b e = absurd cc
 kept-by false h b e = refl
 
 -- a body that is shown wasn't passed over
-pub shown-kept : (r : List ℕ) (h : Header) (b : List ℕ) → shown.shown r ≡ shown.Whole h b → is_passed_over h ≡ false
-shown-kept r h b e =
-    let m = shown-whole r h b e in
-    kept-by (is_passed_over h) h b (sym (ap (shown_of r) m.1) ∙ e)
+pub shown-kept : (limit : ℕ) (r : List ℕ) (h : Header) (b : List ℕ) → shown.shown limit r ≡ shown.Whole h b → is_passed_over limit h ≡ false
+shown-kept limit r h b e =
+    let m = shown-whole limit r h b e in
+    kept-by (is_passed_over limit h) h b (sym (ap (shown_of limit r) m.1) ∙ e)
 
-clip-by : (kind len : ℕ) → kind ≡ 140 → (kind == 140 && (nat_lt 65000 len && nat_le len 256000)) ≡ false → nat_lt 256000 len ≡ false → len ≤ 65000
-clip-by kind len is kept low = grind (arith, nat_tests)
+clip-by : (limit kind len : ℕ) → kind ≡ 140 → (kind == 140 && (nat_lt limit len && nat_le len 256000)) ≡ false → nat_lt 256000 len ≡ false → len ≤ limit
+clip-by limit kind len is kept low = grind (arith, nat_tests)
 
 long-by : (over : Bool) (cause : Cause) → cond over (Some cause) None ≡ None → over ≡ false
 long-by true cause e = absurd cc
@@ -82,25 +82,25 @@ clip-fault h is fine =
     let at : head_fault (record h { kind = 140 }) ≡ None = ap (λ k. head_fault (record h { kind = k })) (sym is) ∙ fine in
     long-by (nat_lt 256000 h.len) (ClipTooLong h.len 0) at
 
--- clipboard data that is shown whole is short
-pub clip-kept : (h : Header) (b : List ℕ) → h.kind ≡ 140 → IsMessage h b → is_passed_over h ≡ false → turn.ClipWhole ≡ clip_turn b
-clip-kept h b is message kept =
-    let short : h.len ≤ 65000 = clip-by h.kind h.len is kept (clip-fault h is message.fine) in
+-- clipboard data that is shown whole keeps the limit
+pub clip-kept : (limit : ℕ) (h : Header) (b : List ℕ) → h.kind ≡ 140 → IsMessage h b → is_passed_over limit h ≡ false → turn.ClipWhole ≡ clip_turn limit b
+clip-kept limit h b is message kept =
+    let short : h.len ≤ limit = clip-by limit h.kind h.len is kept (clip-fault h is message.fine) in
     short-turn b (omega (arith, short, message.whole))
   where
-    short-turn : (b : List ℕ) → length b ≤ 65000 → turn.ClipWhole ≡ clip_turn b
+    short-turn : (b : List ℕ) → length b ≤ limit → turn.ClipWhole ≡ clip_turn limit b
     short-turn b short = grind (arith, nat_tests)
 
-over-by : (kind len : ℕ) → (kind == 140 && (nat_lt 65000 len && nat_le len 256000)) ≡ true → (kind ≡ 140) × (65000 < len)
-over-by kind len is = (grind (arith, nat_tests), grind (arith, nat_tests))
+over-by : (limit kind len : ℕ) → (kind == 140 && (nat_lt limit len && nat_le len 256000)) ≡ true → (kind ≡ 140) × (limit < len)
+over-by limit kind len is = (grind (arith, nat_tests), grind (arith, nat_tests))
 
--- clipboard data whose body was passed over is long
-pub clip-over : (h : Header) (b : List ℕ) → is_passed_over h ≡ true → IsMessage h b → (h.kind ≡ 140) × (turn.ClipOver ≡ clip_turn b)
-clip-over h b is message =
-    let o = over-by h.kind h.len is in
+-- clipboard data whose body was passed over is longer than the limit
+pub clip-over : (limit : ℕ) (h : Header) (b : List ℕ) → is_passed_over limit h ≡ true → IsMessage h b → (h.kind ≡ 140) × (turn.ClipOver ≡ clip_turn limit b)
+clip-over limit h b is message =
+    let o = over-by limit h.kind h.len is in
     (o.0, long-turn b (omega (arith, o.1, message.whole)))
   where
-    long-turn : (b : List ℕ) → 65000 < length b → turn.ClipOver ≡ clip_turn b
+    long-turn : (b : List ℕ) → limit < length b → turn.ClipOver ≡ clip_turn limit b
     long-turn b long = grind (arith, nat_tests)
 
 -- ---- the session's own words for clipboard data in front
@@ -117,8 +117,8 @@ greeted-by false r h b behind e = by (nat_lt (length r) 4) e
 pub clip-greeted : (s : Received) → HasClip s → s.greeted ≡ true
 clip-greeted s clip = let c = clip.1.1 in greeted-by s.greeted c.rest clip.0 clip.1.0 c.behind c.takes
 
-pub kept-clip : (s : Received) → HasKeptClip s → HasClip s
-kept-clip s clip = (clip.0, (clip.1.0, clip.1.1.0))
+pub kept-clip : (limit : ℕ) (s : Received) → HasKeptClip limit s → HasClip s
+kept-clip limit s clip = (clip.0, (clip.1.0, clip.1.1.0))
 
 pub clip-unit : (s : Received) → HasClip s → HasUnit s
 clip-unit s clip =
@@ -127,21 +127,21 @@ clip-unit s clip =
 
 -- what is shown of clipboard data in front
 pub clip-shown : (s : Received) (h : Header) (b : List ℕ) → BeginsWithClip s h b
-    → (r : List ℕ) × (StandsFor s r × (shown.shown r ≡ cond (is_passed_over h) (shown.Skipped h) (shown.Whole h b)))
+    → (r : List ℕ) × (StandsFor s r × (shown.shown s.limit r ≡ cond (is_passed_over s.limit h) (shown.Skipped h) (shown.Whole h b)))
 clip-shown s h b c =
     let g : s.greeted ≡ true = greeted-by s.greeted c.rest h b c.behind c.takes in
-    (c.rest, (c.stands, ap (shown_of c.rest) (ap (λ t. front t c.rest) (sym g) ∙ c.takes)))
+    (c.rest, (c.stands, ap (shown_of s.limit c.rest) (ap (λ t. front t c.rest) (sym g) ∙ c.takes)))
 
 body-by : (over : Bool) (h g : Header) (b c : List ℕ) → cond over (shown.Skipped h) (shown.Whole h b) ≡ shown.Whole g c → c ≡ b
 body-by true h g b c e = absurd cc
 body-by false h g b c e = cc
 
 -- the body that is shown whole is that of the clipboard data in front
-pub clip-body : (s : Received) (g : Header) (c : List ℕ) → ((r : List ℕ) → StandsFor s r → shown.Whole g c ≡ shown.shown r)
+pub clip-body : (s : Received) (g : Header) (c : List ℕ) → ((r : List ℕ) → StandsFor s r → shown.Whole g c ≡ shown.shown s.limit r)
     → (h : Header) (b : List ℕ) → BeginsWithClip s h b → c ≡ b
 clip-body s g c shows h b begins =
     let x = clip-shown s h b begins in
-    body-by (is_passed_over h) h g b c (sym x.1.1 ∙ sym (shows x.0 x.1.0))
+    body-by (is_passed_over s.limit h) h g b c (sym x.1.1 ∙ sym (shows x.0 x.1.0))
 
 abbrev IsWhole : BorrowedFront → Type 0
 IsWhole front = (h : Header) × ((b : _) × (front ≡ borrowed.Whole h b))
@@ -154,18 +154,18 @@ seen-whole (borrowed.Skipped header) h b e = absurd cc
 seen-whole (borrowed.Skipping left) h b e = absurd cc
 seen-whole (borrowed.Need more) h b e = absurd cc
 
-short-kept : (kind len : ℕ) → len ≤ 65000 → (kind == 140 && (nat_lt 65000 len && nat_le len 256000)) ≡ false
-short-kept kind len short = grind (arith, nat_tests)
+short-kept : (limit kind len : ℕ) → len ≤ limit → (kind == 140 && (nat_lt limit len && nat_le len 256000)) ≡ false
+short-kept limit kind len short = grind (arith, nat_tests)
 
 -- clipboard data whose body is kept is shown whole
-pub clip-is_whole : (s : Received) (front : BorrowedFront) → ((r : List ℕ) → StandsFor s r → seen front ≡ shown.shown r) → HasKeptClip s → IsWhole front
+pub clip-is_whole : (s : Received) (front : BorrowedFront) → ((r : List ℕ) → StandsFor s r → seen front ≡ shown.shown s.limit r) → HasKeptClip s.limit s → IsWhole front
 clip-is_whole s borrowed_front shows clip =
     let h = clip.0 in
     let b = clip.1.0 in
     let c = clip.1.1.0 in
     let g = greeted-by s.greeted c.rest h b c.behind c.takes in
     let message = message-is c.rest h b c.behind (ap (λ t. front t c.rest) (sym g) ∙ c.takes) in
-    let kept : is_passed_over h ≡ false = short-kept h.kind h.len (omega (arith, message.whole, clip.1.1.1)) in
+    let kept : is_passed_over s.limit h ≡ false = short-kept s.limit h.kind h.len (omega (arith, message.whole, clip.1.1.1)) in
     let x = clip-shown s h b c in
     seen-whole borrowed_front h b (shows x.0 x.1.0 ∙ x.1.1 ∙ ap (λ o. cond o (shown.Skipped h) (shown.Whole h b)) kept)
 
@@ -175,5 +175,5 @@ cause-same : (f : WireFault) → caller.cause_of f ≡ cause_of f
 cause-same (Kind kind) = refl
 cause-same (Length len) = refl
 
-pub fault-is : (r : List ℕ) (h : Header) (f : WireFault) → shown.shown r ≡ shown.Bad h f → front true r ≡ Fault (cause_of f)
-fault-is r h f e = caller.shown-fault r h f e ∙ ap Fault (cause-same f)
+pub fault-is : (limit : ℕ) (r : List ℕ) (h : Header) (f : WireFault) → shown.shown limit r ≡ shown.Bad h f → front true r ≡ Fault (cause_of f)
+fault-is limit r h f e = caller.shown-fault limit r h f e ∙ ap Fault (cause-same f)

@@ -4,8 +4,9 @@ use Rattle.std.specs.Prelude.{if◌then◌else◌}
 use Rattle.gui_num.specs.declared.Rect.{Rect}
 use Rattle.desk_laws.specs.Sizes.{Sizes}
 use Rattle.desk_laws.specs.Rows.{Row, row_with, placed_at}
+use Rattle.desk_laws.specs.Outputs.{output_of}
 use Rattle.desk_laws.specs.Override.{effective, taken_besides}
-use Rattle.desk_laws.specs.Effects.{configured_row, flags_after, goes_full, mapped_row, same_rect, tells_move, tells_place, whole_desktop}
+use Rattle.desk_laws.specs.Effects.{configured_row, flags_after, goes_full, mapped_row, same_rect, tells_move, tells_place, whole_output}
 use Rattle.desk_laws.specs.Scene.{Post, replies}
 use Rattle.desk_laws.proofs.CheckLemmas.{row_with-window}
 use Rattle.io_ports.specs.Posts.{Leads}
@@ -78,47 +79,54 @@ module _ {O : Type 0} (takes : O → Post → O → Type 0) (out out' : O) (old 
             leads;
       }
 
-  pub full-answered : (set unset flags : ℕ) (place : Rect) → flags ≡ flags_after standing.flags set unset
-      → ((row : Row) → standing ≡ standing_of row → true ≡ goes_full sizes row flags) → place ≡ whole_desktop sizes
+  pub full-answered : (set unset flags : ℕ) (output place : Rect) → flags ≡ flags_after standing.flags set unset → output_of sizes.outputs standing.place ≡ Some output
+      → ((row : Row) → standing ≡ standing_of row → true ≡ goes_full sizes row flags output) → place ≡ whole_output sizes output
       → ((row : Row) → row_with window old.rows ≡ Some row → new ≡ with_row (row_edited (edit.Fill flags place) row) old)
       → Leads takes out (replies guest (tells_place window place false ∷ [])) out'
-      → AnsweredFor takes out out' old new window (λ row. flagged_row sizes (flags_after row.flags set unset) row) (λ row. tells_full sizes (flags_after row.flags set unset) row)
-  full-answered set unset flags place after full whole edited leads = λ row found.
+      → AnsweredFor takes out out' old new window (λ row. flagged_row sizes (output_of sizes.outputs row.place) (flags_after row.flags set unset) row)
+      (λ row. tells_full sizes (output_of sizes.outputs row.place) (flags_after row.flags set unset) row)
+  full-answered set unset flags output place after here full whole edited leads = λ row found.
       let at : standing ≡ standing_of row = same-some standing (standing_of row) (is row found) in
       let named : row.window ≡ window = row_with-window window old.rows row found in
       let n = flags_after row.flags set unset in
       let f : flags ≡ n = after ∙ ap (λ (s : Standing). flags_after s.flags set unset) at in
-      let yes : true ≡ goes_full sizes row n = full row at ∙ ap (goes_full sizes row) f in
-      let rows : new ≡ with_row (flagged_row sizes n row) old =
+      let yes : true ≡ goes_full sizes row n output = full row at ∙ ap (λ k. goes_full sizes row k output) f in
+      let on : Some output ≡ output_of sizes.outputs row.place = sym here ∙ ap (λ (s : Standing). output_of sizes.outputs s.place) at in
+      let rows : new ≡ with_row (flagged_row sizes (output_of sizes.outputs row.place) n row) old =
       edited row found
       ∙ ap (λ p. with_row (placed_at p (record row { flags = flags })) old) whole
-      ∙ ap (λ k. with_row (placed_at (whole_desktop sizes) (record row { flags = k })) old) f
-      ∙ ap (λ b. with_row (cond b (placed_at (whole_desktop sizes) (record row { flags = n })) (record row { flags = n })) old) yes in
+      ∙ ap (λ k. with_row (placed_at (whole_output sizes output) (record row { flags = k })) old) f
+      ∙ ap (λ b. with_row (cond b (placed_at (whole_output sizes output) (record row { flags = n })) (record row { flags = n })) old) yes
+      ∙ ap (λ o. with_row (flagged_row sizes o n row) old) on in
       record {
         rows = rows;
-        told = told (flagged_row sizes n row) _ (tells_full sizes n row) rows
+        told = told (flagged_row sizes (output_of sizes.outputs row.place) n row) _ (tells_full sizes (output_of sizes.outputs row.place) n row) rows
             (ap (λ k. tells_place k place false ∷ []) (sym named)
             ∙ ap (λ p. tells_place row.window p false ∷ []) whole
-            ∙ ap (λ b. cond b (tells_place row.window (whole_desktop sizes) false ∷ []) []) yes)
+            ∙ ap (λ b. cond b (tells_place row.window (whole_output sizes output) false ∷ []) []) yes
+            ∙ ap (λ o. tells_full sizes o n row) on)
             leads;
       }
 
 -- a window that doesn't go to full screen gets its flags, and nothing is told
 pub flags-answered : {O : Type 0} (takes : O → Post → O → Type 0) (out : O) (old new : RowsView) (sizes : Sizes) (window : ℕ) (standing : Standing)
     → ((row : Row) → row_with window old.rows ≡ Some row → Some standing ≡ Some (standing_of row))
-    → (set unset flags : ℕ) → flags ≡ flags_after standing.flags set unset
-    → ((row : Row) → standing ≡ standing_of row → false ≡ goes_full sizes row flags)
+    → (set unset flags : ℕ) (output : Rect) → flags ≡ flags_after standing.flags set unset → output_of sizes.outputs standing.place ≡ Some output
+    → ((row : Row) → standing ≡ standing_of row → false ≡ goes_full sizes row flags output)
     → ((row : Row) → row_with window old.rows ≡ Some row → new ≡ with_row (row_edited (edit.Flags flags) row) old)
-    → AnsweredFor takes out out old new window (λ row. flagged_row sizes (flags_after row.flags set unset) row) (λ row. tells_full sizes (flags_after row.flags set unset) row)
-flags-answered takes out old new sizes window standing is set unset flags after full edited = λ row found.
+    → AnsweredFor takes out out old new window (λ row. flagged_row sizes (output_of sizes.outputs row.place) (flags_after row.flags set unset) row)
+    (λ row. tells_full sizes (output_of sizes.outputs row.place) (flags_after row.flags set unset) row)
+flags-answered takes out old new sizes window standing is set unset flags output after here full edited = λ row found.
     let at : standing ≡ standing_of row = same-some standing (standing_of row) (is row found) in
     let n = flags_after row.flags set unset in
     let f : flags ≡ n = after ∙ ap (λ (s : Standing). flags_after s.flags set unset) at in
-    let no : false ≡ goes_full sizes row n = full row at ∙ ap (goes_full sizes row) f in
-    let P : Bool → Type 0 = λ b. Leads takes out (replies old.guest (cond b (tells_place row.window (whole_desktop sizes) false ∷ []) [])) out in
+    let no : false ≡ goes_full sizes row n output = full row at ∙ ap (λ k. goes_full sizes row k output) f in
+    let on : Some output ≡ output_of sizes.outputs row.place = sym here ∙ ap (λ (s : Standing). output_of sizes.outputs s.place) at in
+    let P : List (List ℕ) → Type 0 = λ answers. Leads takes out (replies old.guest answers) out in
     record {
       rows = edited row found
           ∙ ap (λ k. with_row (record row { flags = k }) old) f
-          ∙ ap (λ b. with_row (cond b (placed_at (whole_desktop sizes) (record row { flags = n })) (record row { flags = n })) old) no;
-      told = subst P no refl;
+          ∙ ap (λ b. with_row (cond b (placed_at (whole_output sizes output) (record row { flags = n })) (record row { flags = n })) old) no
+          ∙ ap (λ o. with_row (flagged_row sizes o n row) old) on;
+      told = subst P (ap (λ b. cond b (tells_place row.window (whole_output sizes output) false ∷ []) []) no ∙ ap (λ o. tells_full sizes o n row) on) refl;
     }

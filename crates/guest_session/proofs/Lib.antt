@@ -17,3 +17,4 @@ pub mod ObeyLemmas
 pub mod FrontFacts
 pub mod TurnLemmas
 pub mod CallerLemmas
+pub mod DeskLemmas

@@ -30,6 +30,7 @@ use Rattle.guest_session.specs.Edits.{row_edited}
 use Rattle.guest_session.specs.Placing.{flagged_row, tells_full, tells_row}
 use Rattle.guest_session.specs.Reading.{ReadsAs}
 use Rattle.guest_session.specs.Obeyed.{Answered, AnsweredFor, Changes, Quiet, Looked, Obeyed, CanObey, Carries}
+use Rattle.desk_laws.specs.Outputs.{output_of}
 use Rattle.guest_session.proofs.PlaceLemmas.{flagged-goes}
 
 -- ---- no cause
@@ -160,8 +161,8 @@ module _ {O : Type 0} (takes : O → Post → O → Type 0) (out out' : O) (port
       (λ none quiet done. on-row (agent.Hints hints) (λ row. Replaced (row_edited (edit.Hints hints) row)) (λ row. []) refl none (λ row found. refl) done)
   command-done m (Flags flags_set flags_unset) is = along m (agent.Flags flags_set flags_unset) (Flags flags_set flags_unset) is
       (λ none quiet done.
-      on-row (agent.Flags flags_set flags_unset) (λ row. Replaced (flagged_row sizes (flags_after row.flags flags_set flags_unset) row))
-      (λ row. tells_full sizes (flags_after row.flags flags_set flags_unset) row) refl none
+      on-row (agent.Flags flags_set flags_unset) (λ row. Replaced (flagged_row sizes (output_of sizes.outputs row.place) (flags_after row.flags flags_set flags_unset) row))
+      (λ row. tells_full sizes (output_of sizes.outputs row.place) (flags_after row.flags flags_set flags_unset) row) refl none
       (λ row found. flagged-goes sizes row (flags_after row.flags flags_set flags_unset)) done)
   command-done m (Class class name) is =
       along m (agent.Class class.now name.now) (Class class name) is

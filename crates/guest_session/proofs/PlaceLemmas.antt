@@ -1,18 +1,18 @@
 -- Where a window is put, and its row there.
-use Rattle.std.proofs.Common.{◌≡◌, ℕ, ◌+◌, ◌*◌, ◌≤◌, ◌<◌, Bool, true, false, cond, ◌&&◌, nat_le, min, drop, get_or, sum_by, length, Some, List, [], ◌∷◌, refl, sym, ap, ◌∙◌, arith}
+use Rattle.std.proofs.Common.{◌≡◌, ℕ, ◌+◌, ◌*◌, ◌≤◌, ◌<◌, Bool, true, false, cond, ◌&&◌, nat_le, min, drop, get_or, sum_by, length, Option, Some, None, List, [], ◌∷◌, refl, sym, ap, ◌∙◌, arith}
 use Rattle.std.specs.Prelude.{slice_get}
 use Rattle.std.proofs.lemmas.Bool.Decides.{nat_tests}
 use Rattle.std.proofs.lemmas.List.{at_drop_all}
 use Rattle.std.proofs.lemmas.List.Sums.{sum_by-drop_more}
 use Rattle.std.proofs.lemmas.Nat.{mul-le}
 use Rattle.std.proofs.lemmas.Option.{slice_get-get_or}
-use Rattle.std.proofs.Math.Nat.{mul_assoc}
 use Rattle.gui_num.specs.declared.Rect.{Rect}
 use Rattle.gui_num.specs.Rects.{grown, area}
 use Rattle.desk_laws.specs.Sizes.{Sizes}
 use Rattle.desk_laws.specs.Rows.{Row, placed_at}
-use Rattle.desk_laws.specs.Override.{Placement, effective, moved_inside, taken_besides}
-use Rattle.desk_laws.specs.Effects.{Replaced, Goes, flagged, goes_full, whole_desktop, tells_place, moved_by, mapped_row, configured_row, placed_by}
+use Rattle.desk_laws.specs.Outputs.{output_of}
+use Rattle.desk_laws.specs.Override.{Placement, effective, moved_into, placed_in, taken_besides}
+use Rattle.desk_laws.specs.Effects.{Replaced, Goes, flagged, flagged_on, goes_full, whole_output, tells_place, moved_by, mapped_row, configured_row, placed_by}
 use Rattle.redirect_limits.specs.declared.Placed as limits
 use Rattle.redirect_limits.specs.Limits.{placed_of}
 use Rattle.guest_session.specs.declared.edit.Edit.TheVariants as edit
@@ -22,21 +22,26 @@ use Rattle.guest_session.specs.Placing.{configured_to, flagged_row, most_taken, 
 
 -- ---- WINDOW_FLAGS
 
-pub flagged-goes : (sizes : Sizes) (row : Row) (flags : ℕ) → flagged sizes row flags ≡ Goes (Replaced (flagged_row sizes flags row)) (tells_full sizes flags row)
-flagged-goes sizes row flags = by (goes_full sizes row flags)
+flagged_on-goes : (sizes : Sizes) (o : Option Rect) (row : Row) (flags : ℕ) → flagged_on sizes o row flags ≡ Goes (Replaced (flagged_row sizes o flags row)) (tells_full sizes o flags row)
+flagged_on-goes sizes None row flags = refl
+flagged_on-goes sizes (Some output) row flags = by (goes_full sizes row flags output)
   where
     full : Row
-    full = placed_at (whole_desktop sizes) (record row { flags = flags })
+    full = placed_at (whole_output sizes output) (record row { flags = flags })
 
     same : Row
     same = record row { flags = flags }
 
     told : List (List ℕ)
-    told = tells_place row.window (whole_desktop sizes) false ∷ []
+    told = tells_place row.window (whole_output sizes output) false ∷ []
 
     by : (b : Bool) → cond b (Goes (Replaced full) told) (Goes (Replaced same) []) ≡ Goes (Replaced (cond b full same)) (cond b told [])
     by true = refl
     by false = refl
+
+pub flagged-goes : (sizes : Sizes) (row : Row) (flags : ℕ)
+    → flagged sizes row flags ≡ Goes (Replaced (flagged_row sizes (output_of sizes.outputs row.place) flags row)) (tells_full sizes (output_of sizes.outputs row.place) flags row)
+flagged-goes sizes row flags = flagged_on-goes sizes (output_of sizes.outputs row.place) row flags
 
 -- ---- MAP and CONFIGURE
 
@@ -85,32 +90,43 @@ configured-is sizes own asked place window row old put named at rule =
 past-limit : (taken own limit : ℕ) → limit ≤ 2985984000 → nat_le (100 * (min most_taken taken + own)) limit ≡ nat_le (100 * (taken + own)) limit
 past-limit taken own limit small = grind (arith, nat_tests)
 
-share-small : (sizes : Sizes) → sizes.width * sizes.height ≤ 33177600 → sizes.percent ≤ 90 → sizes.percent * sizes.width * sizes.height ≤ 2985984000
-share-small sizes pixels percent =
-    let e = mul_assoc sizes.percent sizes.width sizes.height in
-    let le = mul-le sizes.percent (sizes.width * sizes.height) 90 33177600 percent pixels in
-    omega (arith, e, le)
+share-small : (percent : ℕ) (output : Rect) → area output ≤ 33177600 → percent ≤ 90 → percent * area output ≤ 2985984000
+share-small percent output pixels few =
+    let le = mul-le percent (area output) 90 33177600 few pixels in
+    omega (arith, le)
 
--- where the desktop is small, a sum past the bound grants no more than the bound
-pub clamped : (sizes : Sizes) (asked : Bool) (place : Rect) (taken : ℕ) → sizes.width * sizes.height ≤ 33177600 → sizes.percent ≤ 90
-    → effective sizes asked place (min most_taken taken) ≡ effective sizes asked place taken
-clamped sizes asked place taken pixels percent =
+-- where the output is small, a sum past the bound grants no more than the bound
+clamped : (sizes : Sizes) (output : Rect) (asked : Bool) (place : Rect) (taken : ℕ) → area output ≤ 33177600 → sizes.percent ≤ 90
+    → placed_in sizes (Some output) asked place (min most_taken taken) ≡ placed_in sizes (Some output) asked place taken
+clamped sizes output asked place taken pixels percent =
     ap put
-    (past-limit taken (area (grown place sizes.border)) (sizes.percent * sizes.width * sizes.height) (share-small sizes pixels percent))
+    (past-limit taken (area (grown place sizes.border)) (sizes.percent * area output) (share-small sizes.percent output pixels percent))
   where
     put : Bool → Placement
     put b =
-        cond ((asked && (nat_le (place.w + 2 * sizes.border) sizes.width && nat_le (place.h + 2 * sizes.border) sizes.height)) && b)
-        (record {
-          rect = record {
-            x = moved_inside place.x place.w sizes.border sizes.width;
-            y = moved_inside place.y place.h sizes.border sizes.height;
-            w = place.w;
-            h = place.h;
-          };
-          over = true;
-        })
+        cond ((asked && (nat_le (place.w + 2 * sizes.border) output.w && nat_le (place.h + 2 * sizes.border) output.h)) && b)
+        (record { rect = moved_into output sizes.border place; over = true })
         (record { rect = place; over = false })
+
+-- the override rule against the output of the place, where the sum is counted up to the bound
+pub placed-is : (sizes : Sizes) (output : Rect) (asked : Bool) (place : Rect) (taken counted : ℕ) (put : limits.Placed) → area output ≤ 33177600 → sizes.percent ≤ 90
+    → output_of sizes.outputs place ≡ Some output → counted ≡ min most_taken taken → placed_of put ≡ placed_in sizes (Some output) asked place counted
+    → placed_of put ≡ effective sizes asked place taken
+placed-is sizes output asked place taken counted put pixels percent here sum rule =
+    rule
+    ∙ ap (placed_in sizes (Some output) asked place) sum
+    ∙ clamped sizes output asked place taken pixels percent
+    ∙ ap (λ o. placed_in sizes o asked place taken) (sym here)
+
+-- a window that isn't to be in the override layer stays
+unasked : (sizes : Sizes) (o : Option Rect) (place : Rect) (taken : ℕ) → placed_in sizes o false place taken ≡ record { rect = place; over = false }
+unasked sizes None place taken = refl
+unasked sizes (Some output) place taken = refl
+
+pub unasked-stays : (sizes : Sizes) (asked : Bool) (place : Rect) (taken : ℕ) → asked ≡ false
+    → placed_of (record { rect = place; over = false }) ≡ effective sizes asked place taken
+unasked-stays sizes asked place taken plain =
+    sym (unasked sizes (output_of sizes.outputs place) place taken) ∙ ap (λ a. effective sizes a place taken) (sym plain)
 
 -- ---- the sum over the rows, one after the other
 

@@ -59,7 +59,7 @@ module _ {O : Type 0} (takes : O → Post → O → Type 0) (out : O) (port : Po
       turn-along out port (joined sizes stream rows' minor (Some cause)) (Ended cause) f (Fault cause) e (ends-for rows' cause gone)
 
   -- clipboard data stands in front
-  pub turn-clip : (f : Front) (header : Header) (body behind : List ℕ) (turn : Turn) → f ≡ Takes (Whole header body) behind → header.kind ≡ 140 → turn ≡ clip_turn body
+  pub turn-clip : (f : Front) (header : Header) (body behind : List ℕ) (turn : Turn) → f ≡ Takes (Whole header body) behind → header.kind ≡ 140 → turn ≡ clip_turn sizes.clip_limit body
       → Turns takes out out port port session session turn f
   turn-clip f header body behind turn e is answer =
       let P : Bool → Type 0 = λ b. TakesUnit takes out out port port session session turn (Whole header body) behind b in

@@ -1,6 +1,5 @@
 -- Clipboard data at the front of what a session holds.
 use Rattle.std.specs.Prelude.{◌≡◌, ℕ, ◌≤◌, Bool, false, ◌==◌, List, [], length}
-use Rattle.gui_wire.specs.declared.limits.TheConstants.{MAX_CLIPBOARD_SIZE}
 use Rattle.gui_wire.specs.declared.Header.{Header}
 use Rattle.desk_laws.specs.Stream.{StreamUnit, Word, Stop, Whole, Takes, front}
 use Rattle.in_stream.specs.Received.{Received, StandsFor}
@@ -17,9 +16,9 @@ pub record BeginsWithClip (stream : Received) (header : Header) (body : List ℕ
 abbrev pub HasClip : Received → Type 0
 HasClip stream = (header : Header) × ((body : List ℕ) × BeginsWithClip stream header body)
 
--- clipboard data whose body is kept stands in front, as `turn` answers by ClipWhole
-abbrev pub HasKeptClip : Received → Type 0
-HasKeptClip stream = (header : Header) × ((body : List ℕ) × (BeginsWithClip stream header body × (length body ≤ MAX_CLIPBOARD_SIZE)))
+-- clipboard data whose body is kept, under this limit, stands in front, as `turn` answers by ClipWhole
+abbrev pub HasKeptClip : ℕ → Received → Type 0
+HasKeptClip limit stream = (header : Header) × ((body : List ℕ) × (BeginsWithClip stream header body × (length body ≤ limit)))
 
 -- whether a unit is clipboard data
 abbrev pub is_clip : StreamUnit → Bool

@@ -10,6 +10,7 @@ use Rattle.desk_laws.specs.Frames.{PortState}
 use Rattle.desk_laws.specs.Effects.{Change, Same, Added, Replaced, Removed, Area, clipped, reads, Verdict, Ends, Greets, Goes, Reads, created, id_if, isnt_zero, mapped_row, configured_row, flags_after, tells_move, acks, refs_besides}
 use Rattle.desk_laws.specs.Scene.{Post, replies}
 use Rattle.desk_laws.specs.Ranges.{IsPlace}
+use Rattle.desk_laws.specs.Outputs.{output_of}
 use Rattle.io_ports.specs.Posts.{Leads}
 use Rattle.message_checks.specs.declared.command.Command.{Command}
 use Rattle.message_checks.specs.declared.command.Command.TheVariants.{Create, Destroy, Map, Unmap, Configure, Shmimage, Clip, Name, Dock, Hints, Flags, Class, Dump, Cursor}
@@ -59,8 +60,8 @@ Changes takes out out' old new sizes minor window Dock = Edited takes out out' o
 Changes takes out out' old new sizes minor window (Hints hints) = Edited takes out out' old new window (edit.Hints hints)
 Changes takes out out' old new sizes minor window (Flags flags_set flags_unset) =
     AnsweredFor takes out out' old new window
-    (λ row. flagged_row sizes (flags_after row.flags flags_set flags_unset) row)
-    (λ row. tells_full sizes (flags_after row.flags flags_set flags_unset) row)
+    (λ row. flagged_row sizes (output_of sizes.outputs row.place) (flags_after row.flags flags_set flags_unset) row)
+    (λ row. tells_full sizes (output_of sizes.outputs row.place) (flags_after row.flags flags_set flags_unset) row)
 Changes takes out out' old new sizes minor window (Class class name) = Edited takes out out' old new window (edit.Class class name)
 Changes takes out out' old new sizes minor window (Dump kind width height bpp refs) =
     AnsweredFor takes out out' old new window (with_dump width height (references refs)) (λ row. acks minor window)

@@ -1,10 +1,10 @@
 -- Where a window is put, by what of it decides that.
-use Rattle.std.specs.Prelude.{ℕ, ◌^◌, Bool, false, List, [], ◌∷◌, if◌then◌else◌}
+use Rattle.std.specs.Prelude.{ℕ, ◌^◌, Bool, false, List, [], ◌∷◌, Option, Some, None, if◌then◌else◌}
 use Rattle.gui_num.specs.declared.Rect.{Rect}
 use Rattle.desk_laws.specs.Sizes.{Sizes}
 use Rattle.desk_laws.specs.Rows.{Row, placed_at}
 use Rattle.desk_laws.specs.Override.{Placement, effective, taken_besides}
-use Rattle.desk_laws.specs.Effects.{goes_full, whole_desktop, tells_place}
+use Rattle.desk_laws.specs.Effects.{goes_full, whole_output, tells_place}
 use Rattle.guest_session.specs.declared.rows.Standing.{Standing}
 
 -- the most pixels that override-redirect windows are counted to take: more than any desktop has
@@ -22,17 +22,19 @@ configured_to sizes own window old asked place =
     then effective sizes asked place (taken_besides sizes.border window own)
     else record { rect = place; over = old.over }
 
--- the row once it has these flags: on the whole desktop, where they put it there
-abbrev pub flagged_row : Sizes → ℕ → Row → Row
-flagged_row sizes flags row =
-    if goes_full sizes row flags
-    then placed_at (whole_desktop sizes) (record row { flags = flags })
+-- a row whose output is this one, once it has these flags: on the whole output, where they put it there
+abbrev pub flagged_row : Sizes → Option Rect → ℕ → Row → Row
+flagged_row sizes None flags row = record row { flags = flags }
+flagged_row sizes (Some output) flags row =
+    if goes_full sizes row flags output
+    then placed_at (whole_output sizes output) (record row { flags = flags })
     else record row { flags = flags }
 
--- what is told of a window whose row gets these flags: its place, where they put it on the whole desktop
-abbrev pub tells_full : Sizes → ℕ → Row → List (List ℕ)
-tells_full sizes flags row =
-    if goes_full sizes row flags then tells_place row.window (whole_desktop sizes) false ∷ [] else []
+-- what is told of a window whose row gets these flags: its place, where they put it on the whole output
+abbrev pub tells_full : Sizes → Option Rect → ℕ → Row → List (List ℕ)
+tells_full sizes None flags row = []
+tells_full sizes (Some output) flags row =
+    if goes_full sizes row flags output then tells_place row.window (whole_output sizes output) false ∷ [] else []
 
 -- the message that tells a row's place, and whether it is in the override layer
 abbrev pub tells_row : Row → List ℕ

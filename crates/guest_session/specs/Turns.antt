@@ -1,7 +1,6 @@
 -- What a turn of a session does.
 use Rattle.std.specs.Prelude.{◌≡◌, ℕ, Bool, true, false, nat_le, List, length, Option, None, if◌then◌else◌}
 use Rattle.gui_num.specs.declared.Rect.{Rect}
-use Rattle.gui_wire.specs.declared.limits.TheConstants.{MAX_CLIPBOARD_SIZE}
 use Rattle.desk_laws.specs.declared.cause.Cause.{Cause}
 use Rattle.desk_laws.specs.Stream as cut
 use Rattle.desk_laws.specs.Stream.{StreamUnit, Word, Stop, Whole, Front, Fault, Takes}
@@ -49,9 +48,9 @@ Decides takes out out' port port' old new turn window behind (Goes change answer
 Decides takes out out' port port' old new turn window behind (Reads row area) =
     HadEffect takes out out' port' old new turn window (drawn_by area) (carried_out old.guest old.minor old.rows port (Reads row area)) behind
 
--- what a turn answers where clipboard data stands in front: whether its body is kept
-abbrev pub clip_turn : List ℕ → Turn
-clip_turn body = if nat_le (length body) MAX_CLIPBOARD_SIZE then ClipWhole else ClipOver
+-- what a turn answers where clipboard data stands in front: whether its body is kept, under this limit
+abbrev pub clip_turn : ℕ → List ℕ → Turn
+clip_turn limit body = if nat_le (length body) limit then ClipWhole else ClipOver
 
 -- the window of a unit, 0 for the version word
 abbrev pub window_of : StreamUnit → ℕ
@@ -61,7 +60,7 @@ window_of (Whole header body) = header.window
 
 -- clipboard data stays in front
 pub record ShowsClip {O : Type 0} (out out' : O) (port port' : PortState) (old new : SessionView) (turn : Turn) (body : List ℕ) : Type 0 where
-  pub answer : turn ≡ clip_turn body
+  pub answer : turn ≡ clip_turn old.sizes.clip_limit body
   pub stays : Stays out out' port port' old new
 
 -- a whole unit stands in front: clipboard data, or not

@@ -1,6 +1,6 @@
 // What the desktop grants a guest: what it does to the window, and the message that tells it.
-ghost use Rattle.std.specs.Prelude.{◌≡◌, ◌+◌, ◌≤◌, [], ◌∷◌, Some, length};
-ghost use Rattle.gui_wire.specs.declared.limits.TheConstants.{MAX_CLIPBOARD_SIZE};
+ghost use Rattle.std.specs.Prelude.{◌≡◌, ◌+◌, ◌≤◌, max, [], ◌∷◌, Some, IfSome, length};
+ghost use Rattle.gui_wire.specs.declared.limits.TheConstants.{MAX_CLIPBOARD_DATA};
 ghost use Rattle.desk_laws.specs.Rows.{Row, row_with};
 ghost use Rattle.desk_laws.specs.Effects.{as_one};
 ghost use Rattle.desk_laws.specs.Grants.{FitsGrant, grant_answers, grant_change, window_of};
@@ -56,7 +56,8 @@ fn as_one(b: bool) -> u32
 // What tells a granted input of its window, with the pasted bytes where it gives the clipboard; nothing
 // tells a window that it is shown again.
 fn message_of<'a>(input: &GIn, paste: &'a [u8]) -> Option<DaemonMsg<'a>>
-    requires { length paste.now ≤ MAX_CLIPBOARD_SIZE }
+    requires { length paste.now ≤ MAX_CLIPBOARD_DATA }
+    ensures short { IfSome result (λ msg. length (daemon_body (daemon_message msg)) ≤ max 32 (length paste.now)) }
     ensures told { IsTold (grant_answers input.now paste.now) (window_named input.now) result }
 {
     match *input {
@@ -146,8 +147,8 @@ fn tell_message<O: Outlet>(
 
 // Tells a guest what it was granted.
 fn tell<O: Outlet>(guest: u32, input: &GIn, paste: &[u8], room: &mut [u8], out: &mut O)
-    requires paste { length paste.now ≤ MAX_CLIPBOARD_SIZE }
-    requires room { length room.old ≡ 12 + MAX_CLIPBOARD_SIZE }
+    requires paste { length paste.now ≤ MAX_CLIPBOARD_DATA }
+    requires room { 12 + max 32 (length paste.now) ≤ length room.old }
     ensures told { Leads O.takes out.old (replies guest (grant_answers input.now paste.now)) out.new }
     ensures room { length room.new ≡ length room.old }
 {
@@ -184,8 +185,8 @@ fn grant_to<O: Outlet>(
 )
     requires fits { FitsGrant input.now }
     requires named { window_of input.now ≡ Some window }
-    requires paste { length paste.now ≤ MAX_CLIPBOARD_SIZE }
-    requires room { length room.old ≡ 12 + MAX_CLIPBOARD_SIZE }
+    requires paste { length paste.now ≤ MAX_CLIPBOARD_DATA }
+    requires room { 12 + max 32 (length paste.now) ≤ length room.old }
     ensures granted { Grants O.takes out.old out.new input.now paste.now rows.old rows.new }
     ensures room { length room.new ≡ length room.old }
 {
@@ -207,8 +208,8 @@ pub(crate) fn grant<O: Outlet>(
     out: &mut O,
 )
     requires fits { FitsGrant input.now }
-    requires paste { length paste.now ≤ MAX_CLIPBOARD_SIZE }
-    requires room { length room.old ≡ 12 + MAX_CLIPBOARD_SIZE }
+    requires paste { length paste.now ≤ MAX_CLIPBOARD_DATA }
+    requires room { 12 + max 32 (length paste.now) ≤ length room.old }
     ensures granted { Grants O.takes out.old out.new input.now paste.now rows.old rows.new }
     ensures room { length room.new ≡ length room.old }
 {

@@ -2,14 +2,16 @@
 ghost use Rattle.std.specs.Prelude.{◌≡◌, ℕ, ◌<◌, [], ◌∷◌, None, length};
 ghost use Rattle.desk_laws.specs.Stream.{Whole, head_fault};
 ghost use Rattle.desk_laws.specs.Effects.{configured_row, flags_after, mapped_row, tells_move, verdict};
+ghost use Rattle.desk_laws.specs.Outputs.{output_of};
 ghost use Rattle.desk_laws.specs.Ranges.{IsPlace};
 ghost use Rattle.frame_pool.specs.Ports.{ChangesFrames};
 ghost use Rattle.guest_session.specs.Desk.{FitDesk, sizes_in};
 ghost use Rattle.guest_session.specs.Placing.{flagged_row, tells_full, tells_row};
 ghost use Rattle.guest_session.specs.Obeyed.{AnsweredFor, Carries, CanObey, Changes, Obeyed};
 
+use crate::desk::{Desk, output_at};
 use crate::edit::Edit;
-use crate::place::{configured, flags_after, goes_full, placed, whole_desktop};
+use crate::place::{configured, flags_after, goes_full, placed, whole_output};
 use crate::replies::{acknowledge, tell_move, tell_place};
 use crate::rows::Rows;
 use desk_laws::Cause;
@@ -18,12 +20,11 @@ use gui_num::Rect;
 use gui_wire::{Header, body_of};
 use io_ports::Outlet;
 use message_checks::Command;
-use redirect_limits::DeskSize;
 
 // Maps a window by the override rule, and tells its place where that changed.
 fn map<O: Outlet>(
     rows: &mut Rows,
-    desk: &DeskSize,
+    desk: &Desk,
     window: u32,
     asked: bool,
     transient: u32,
@@ -52,7 +53,7 @@ fn map<O: Outlet>(
 // Gives a window the place that it asks for, by the override rule where it is mapped, and tells it.
 fn configure<O: Outlet>(
     rows: &mut Rows,
-    desk: &DeskSize,
+    desk: &Desk,
     window: u32,
     place: Rect,
     asked: bool,
@@ -77,19 +78,20 @@ fn configure<O: Outlet>(
     tell_place(rows.guest(), window, put.rect, put.over, out);
 }
 
-// Gives a window these flags. Where they put it on the whole desktop, its place is told.
-fn flag<O: Outlet>(rows: &mut Rows, desk: &DeskSize, window: u32, set: u32, unset: u32, out: &mut O)
+// Gives a window these flags. Where they put it on the whole of its output, its place is told.
+fn flag<O: Outlet>(rows: &mut Rows, desk: &Desk, window: u32, set: u32, unset: u32, out: &mut O)
     requires fit { FitDesk desk.now }
     ensures { AnsweredFor O.takes out.old out.new rows.old rows.new window
-        (λ row. flagged_row (sizes_in desk.now rows.old) (flags_after row.flags set unset) row)
-        (λ row. tells_full (sizes_in desk.now rows.old) (flags_after row.flags set unset) row) }
+        (λ row. flagged_row (sizes_in desk.now rows.old) (output_of desk.now.outputs row.place) (flags_after row.flags set unset) row)
+        (λ row. tells_full (sizes_in desk.now rows.old) (output_of desk.now.outputs row.place) (flags_after row.flags set unset) row) }
 {
     let Some(old) = rows.standing(window) else {
         return;
     };
     let flags = flags_after(old.flags, set, unset);
-    if goes_full(old, flags, desk) {
-        let place = whole_desktop(desk);
+    let output = output_at(desk, old.place);
+    if goes_full(old, flags, desk, output) {
+        let place = whole_output(desk, output);
         rows.edit(window, &Edit::Fill { flags, place });
         tell_place(rows.guest(), window, place, false, out);
     } else {
@@ -101,7 +103,7 @@ fn flag<O: Outlet>(rows: &mut Rows, desk: &DeskSize, window: u32, set: u32, unse
 // read.
 fn change<O: Outlet>(
     rows: &mut Rows,
-    desk: &DeskSize,
+    desk: &Desk,
     minor: u32,
     window: u32,
     command: &Command<'_>,
@@ -159,7 +161,7 @@ fn change<O: Outlet>(
 // the window that was read, if one was, or why none is read.
 fn obey<P: FramePort, O: Outlet>(
     rows: &mut Rows,
-    desk: &DeskSize,
+    desk: &Desk,
     minor: u32,
     window: u32,
     command: &Command<'_>,
@@ -191,7 +193,7 @@ fn obey<P: FramePort, O: Outlet>(
 // rectangle of the window that was read, if one was.
 pub(crate) fn take<P: FramePort, O: Outlet>(
     rows: &mut Rows,
-    desk: &DeskSize,
+    desk: &Desk,
     minor: u32,
     header: Header,
     body: &[u8],

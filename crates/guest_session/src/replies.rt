@@ -7,18 +7,18 @@ ghost use Rattle.io_ports.specs.Posts.{Leads};
 ghost use Rattle.guest_session.specs.Desk.{sizes_in};
 ghost use Rattle.guest_session.specs.RowsView.{RowsView};
 
+use crate::desk::Desk;
 use desk_laws::{DUMP_ACK_MINOR, VERSION_REPLY_MINOR};
 use gui_num::Rect;
 use gui_wire::{DaemonMsg, spell_daemon, spell_word, spell_xconf};
 use io_ports::Outlet;
-use redirect_limits::DeskSize;
 
 // The daemon's version of the Qubes GUI protocol: 1.7.
 const VERSION: u32 = 0x0001_0007;
 
 // Answers a version word: with the daemon's version from minor version 4 on, and with the size of the
 // desktop.
-pub(crate) fn greet<O: Outlet>(guest: u32, desk: &DeskSize, minor: u32, out: &mut O)
+pub(crate) fn greet<O: Outlet>(guest: u32, desk: &Desk, minor: u32, out: &mut O)
     requires wide { desk.now.width ≤ 8192 }
     requires high { desk.now.height ≤ 8192 }
     ensures { (rows : RowsView) → Leads O.takes out.old (replies guest (greeting (sizes_in desk.now rows) minor)) out.new }

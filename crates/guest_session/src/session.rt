@@ -5,7 +5,6 @@ ghost use Rattle.desk_laws.specs.declared.cause.Cause.{Cause};
 ghost use Rattle.desk_laws.specs.Rules.{first_broken};
 ghost use Rattle.desk_laws.specs.Sizes.{sizes_of};
 ghost use Rattle.desk_laws.specs.Rows.{row_with, span};
-ghost use Rattle.gui_wire.specs.declared.limits.TheConstants.{MAX_CLIPBOARD_SIZE};
 ghost use Rattle.desk_laws.specs.Grants.{FitsGrant, granted};
 ghost use Rattle.desk_laws.specs.Scene.{replies};
 ghost use Rattle.desk_laws.specs.Stream.{front};
@@ -23,17 +22,15 @@ ghost use Rattle.guest_session.specs.Reading.{content_in};
 ghost use Rattle.guest_session.specs.Turns.{Turns};
 
 use crate::Turn;
-use crate::desk::desk_of;
+use crate::desk::{Desk, desk_of};
 use crate::grant::grant;
 use crate::rows::Rows;
 use crate::units::{ended_by, take_unit};
 use desk_laws::{Cause, GIn, Setup};
 use frame_pool::FramePort;
 use gui_num::{Colour, NoMemory};
-use gui_wire::MAX_CLIPBOARD_SIZE;
 use in_stream::{Front, InStream};
 use io_ports::Outlet;
-use redirect_limits::DeskSize;
 use std::alloc::Global;
 use std::marker::Model;
 use window_table::Pane;
@@ -49,7 +46,7 @@ const HEAD_LEN: usize = 12;
 /// ClipWhole or ClipOver, it calls `clip_done` before the next `turn`.
 #[derive(Drop)]
 pub struct Session {
-    desk: DeskSize,
+    desk: Desk,
     stream: InStream,
     rows: Rows,
     minor: u32,
@@ -59,17 +56,16 @@ pub struct Session {
 }
 
 impl Model for Session {
-    ghost use Rattle.std.specs.Prelude.{◌≡◌, ◌+◌, length};
-    ghost use Rattle.gui_wire.specs.declared.limits.TheConstants.{MAX_CLIPBOARD_SIZE};
+    ghost use Rattle.std.specs.Prelude.{length};
     ghost use Rattle.guest_session.specs.SessionView.{SessionView};
-    ghost use Rattle.guest_session.specs.Desk.{FitDesk, sizes_in};
+    ghost use Rattle.guest_session.specs.Desk.{KeepsDesk, sizes_in};
     ghost use Rattle.guest_session.specs.Parts.{joined};
 
     ghost Value = { SessionView };
 
     ghost view = { λ s. joined (sizes_in s.desk s.rows) s.stream s.rows s.minor s.ended };
 
-    ghost invariant = { λ s. FitDesk s.desk × (length s.room.items ≡ 12 + MAX_CLIPBOARD_SIZE) };
+    ghost invariant = { λ s. KeepsDesk s.desk s.stream.limit (length s.room.items) };
 }
 
 // A room for so many bytes.
@@ -91,12 +87,12 @@ impl Session {
         ensures stands { IfOk result (λ s. StandsFor s.stream []) }
     {
         Ok(Session {
-            desk: desk_of(setup),
-            stream: InStream::new(alloc)?,
+            desk: desk_of(alloc, setup)?,
+            stream: InStream::new(alloc, setup.clip_limit())?,
             rows: Rows::new(alloc, guest, setup.pages, setup.tiles)?,
             minor: 0,
             ended: None,
-            room: room_for(alloc, HEAD_LEN + MAX_CLIPBOARD_SIZE as usize)?,
+            room: room_for(alloc, HEAD_LEN + setup.clip_limit() as usize)?,
         })
     }
 
@@ -126,7 +122,7 @@ impl Session {
     /// A version word whose major number isn't 1 is refused (`BadVersion`), what `InStream::front` and
     /// `message_checks::check` refuse, and an SHMIMAGE that would take more tiles than are free
     /// (`PixelBudget`). Answered are the version word, CONFIGURE, MAP where it puts the window
-    /// elsewhere, WINDOW_FLAGS where it puts the window on the whole desktop, and from minor version 7
+    /// elsewhere, WINDOW_FLAGS where it puts the window on a whole output, and from minor version 7
     /// on WINDOW_DUMP. That an agent below version 1.4 isn't told the daemon's own version is this
     /// project's own, and so are the limits of override-redirect windows. Of the port only this guest's
     /// frames are read, each pixel of a reported area once, row by row from the top and from left to
@@ -155,7 +151,7 @@ impl Session {
 
     /// The clipboard data that stands in front, after `turn` answered ClipWhole.
     pub fn clip(&self) -> &[u8]
-        requires { HasKeptClip self.now.stream }
+        requires { HasKeptClip self.now.sizes.clip_limit self.now.stream }
         ensures { (header : Header) (body : List ℕ) → BeginsWithClip self.now.stream header body → result.now ≡ body }
     {
         match self.stream.front() {
@@ -184,15 +180,15 @@ impl Session {
 
     /// Grants the guest an input: does to the window what is granted (another place, shown again) and
     /// posts the message that tells it, nothing where the window isn't there. `paste` is what CLIPBOARD_DATA
-    /// carries, at most `MAX_CLIPBOARD_SIZE` bytes, and of no matter for all other inputs. A place is in
-    /// the range of places: from -32768 to 32767, and from 1 by 1 to the greatest window.
+    /// carries, no more bytes than the clipboard's limit, and of no matter for all other inputs. A place is
+    /// in the range of places: from -32768 to 32767, and from 1 by 1 to the greatest window.
     ///
     /// Posted are KEYPRESS, BUTTON, MOTION, CROSSING, FOCUS, KEYMAP_NOTIFY, CLOSE, CONFIGURE,
     /// CLIPBOARD_REQ and CLIPBOARD_DATA of the Qubes GUI protocol; a window that is shown again is told
     /// nothing.
     pub fn grant<O: Outlet>(&mut self, input: &GIn, paste: &[u8], out: &mut O)
         requires fits { FitsGrant input.now }
-        requires paste { length paste.now ≤ MAX_CLIPBOARD_SIZE }
+        requires paste { length paste.now ≤ self.old.sizes.clip_limit }
         ensures session { self.new ≡ record self.old { rows = (granted self.old.guest self.old.rows input.now paste.now).rows } }
         ensures told { Leads O.takes out.old (replies self.old.guest (granted self.old.guest self.old.rows input.now paste.now).answers) out.new }
     {

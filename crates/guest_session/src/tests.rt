@@ -1,10 +1,10 @@
 // One session each, with hand-computed answers, on a desktop of 8 by 6. What each message does is told by
 // the definitions, and by the tests of the program.
-ghost use Rattle.std.specs.Prelude.{◌≡◌, ◌<◌, ◌≤◌, None, length};
+ghost use Rattle.std.specs.Prelude.{◌≡◌, ◌<◌, ◌≤◌, None, IfOk, length};
 ghost use Rattle.desk_laws.specs.Grants.{FitsGrant};
 
 use super::*;
-use desk_laws::{Cause, GIn, GuestSetup, Guests, Name, Setup};
+use desk_laws::{Cause, GIn, GuestSetup, Guests, Name, Outputs, Pairs, Setup};
 use frame_pool::TapePort;
 use gui_num::{Colour, NoMemory, Rect};
 use io_ports::PostList;
@@ -39,8 +39,23 @@ fn guests_of(alloc: Global) -> Result<Guests, NoMemory> {
     Ok(guests)
 }
 
-fn setup_of(alloc: Global, pages: u32) -> Result<Setup, NoMemory> {
+// The one output of the whole desktop.
+fn outputs_of(alloc: Global) -> Result<Outputs, NoMemory> {
+    let mut outputs = Outputs::new(alloc);
+    outputs.push(Rect {
+        x: 0,
+        y: 0,
+        w: 8,
+        h: 6,
+    })?;
+    Ok(outputs)
+}
+
+fn setup_of(alloc: Global, pages: u32) -> Result<Setup, NoMemory>
+    ensures { IfOk result (λ setup. setup.clip ≡ 1) }
+{
     let guests = guests_of(alloc)?;
+    let outputs = outputs_of(alloc)?;
     Ok(Setup {
         width: 8,
         height: 6,
@@ -50,6 +65,9 @@ fn setup_of(alloc: Global, pages: u32) -> Result<Setup, NoMemory> {
         percent: 90,
         background: Colour(0),
         guests,
+        outputs,
+        clip: 1,
+        denied: Pairs::new(alloc),
     })
 }
 
@@ -61,6 +79,7 @@ struct Run {
     out: PostList,
     ghost guest: { session.guest < length port.tapes },
     ghost pages: { port.pages ≡ session.sizes.pages },
+    ghost clip: { 3 ≤ session.sizes.clip_limit },
 }
 
 // The session of a guest with four pages, which sent this version word.
@@ -71,11 +90,18 @@ fn ready(alloc: Global, word: &[u8; 4]) -> Result<Run, NoMemory> {
 // The same with so many pages.
 fn ready_with(alloc: Global, pages: u32, word: &[u8; 4]) -> Result<Run, NoMemory> {
     let setup = setup_of(alloc, pages)?;
+    ready_on(alloc, &setup, word)
+}
+
+// The session of the guest of this setup, which sent this version word.
+fn ready_on(alloc: Global, setup: &Setup, word: &[u8; 4]) -> Result<Run, NoMemory>
+    requires { setup.now.clip ≡ 1 }
+{
     if setup.first_broken().is_some() {
         return Err(NoMemory);
     }
     let mut run = Run {
-        session: Session::open(alloc, 0, &setup)?,
+        session: Session::open(alloc, 0, setup)?,
         port: TapePort::new(alloc, 1, setup.pages)?,
         out: PostList::new(alloc),
     };
@@ -343,6 +369,45 @@ fn changes_what_is_granted(rt: HostRuntime) -> Result<(), NoMemory> {
         Some(pane) => assert!(rt; pane.place == rect && pane.flags == 2),
         None => assert!(rt; false),
     }
+    Ok(())
+}
+
+// A session on a plane of 40 by 10 pixels, whose second output is its right half.
+fn ready_on_two(alloc: Global) -> Result<Run, NoMemory> {
+    let mut setup = setup_of(alloc, 4)?;
+    setup.width = 40;
+    setup.height = 10;
+    setup.outputs.push(Rect {
+        x: 20,
+        y: 0,
+        w: 20,
+        h: 10,
+    })?;
+    ready_on(alloc, &setup, &SEVEN)
+}
+
+// A place of 4 by 2 pixels from (35, 7) on, of an override-redirect window.
+const MOVED: [u8; 32] = [
+    134, 0, 0, 0, 1, 0, 0, 0, 20, 0, 0, 0, 35, 0, 0, 0, 7, 0, 0, 0, 4, 0, 0, 0, 2, 0, 0, 0, 1, 0,
+    0, 0,
+];
+
+// A place of 18 by 8 pixels from (21, 1) on.
+const FULL: [u8; 32] = [
+    134, 0, 0, 0, 2, 0, 0, 0, 20, 0, 0, 0, 21, 0, 0, 0, 1, 0, 0, 0, 18, 0, 0, 0, 8, 0, 0, 0, 0, 0,
+    0, 0,
+];
+
+#[test]
+fn places_in_the_second_output(rt: HostRuntime) -> Result<(), NoMemory> {
+    let mut run = ready_on_two(rt.alloc())?;
+    run.send(CREATE, 1, &[38, 8, 4, 2, 0, 0]);
+    run.send(MAP, 1, &[0, 1]);
+    run.send(CREATE, 2, &[25, 4, 3, 1, 0, 0]);
+    run.send(FLAGS, 2, &[1, 0]);
+    assert!(rt; run.said(2, &MOVED));
+    assert!(rt; run.said(3, &FULL));
+    assert!(rt; run.out.reply_at(4).is_none());
     Ok(())
 }
 

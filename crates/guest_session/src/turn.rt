@@ -11,7 +11,7 @@ pub enum Turn {
     /// message's header, 0 for the version word. `drawn` is the rectangle of the window's pixels that
     /// was read, counted from the upper left corner of its place; None where no pixel was.
     Changed { window: u32, drawn: Option<Rect> },
-    /// Clipboard data of at most `MAX_CLIPBOARD_SIZE` bytes stands in front.
+    /// Clipboard data of no more bytes than the clipboard's limit stands in front.
     ClipWhole,
     /// Longer clipboard data, of at most `MAX_SKIPPED_CLIPBOARD` bytes, stands in front; its bytes weren't kept.
     ClipOver,

@@ -10,6 +10,7 @@ ghost use Rattle.guest_session.specs.Parts as parts;
 ghost use Rattle.guest_session.specs.Turns.{Turns};
 
 use crate::Turn;
+use crate::desk::Desk;
 use crate::obey::take;
 use crate::replies::greet;
 use crate::rows::Rows;
@@ -18,7 +19,6 @@ use frame_pool::FramePort;
 use gui_wire::WireFault;
 use in_stream::{Front, InStream};
 use io_ports::Outlet;
-use redirect_limits::DeskSize;
 
 // The type of clipboard data.
 const CLIPBOARD_DATA: u32 = 140;
@@ -46,13 +46,14 @@ fn refuse(rows: &mut Rows, cause: Cause) -> Turn
 fn take_word<O: Outlet>(
     stream: &mut InStream,
     rows: &mut Rows,
-    desk: &DeskSize,
+    desk: &Desk,
     minor: &mut u32,
     out: &mut O,
 ) -> Turn
     requires greeted { stream.old.greeted ≡ false }
     requires wide { desk.now.width ≤ 8192 }
     requires high { desk.now.height ≤ 8192 }
+    ensures limit { stream.new.limit ≡ stream.old.limit }
     ensures pages { rows.new.pages ≡ rows.old.pages }
     ensures tiles { rows.new.tiles ≡ rows.old.tiles }
     ensures turned { (port : PortState) (rest : List ℕ) → StandsFor stream.old rest → Turns O.takes out.old out.new port port
@@ -80,15 +81,17 @@ fn take_word<O: Outlet>(
 fn take_front<P: FramePort, O: Outlet>(
     stream: &mut InStream,
     rows: &mut Rows,
-    desk: &DeskSize,
+    desk: &Desk,
     minor: u32,
     port: &mut P,
     out: &mut O,
 ) -> Turn
     requires fit { FitDesk desk.now }
+    requires limit { stream.old.limit ≡ desk.now.clip_limit }
     requires greeted { stream.old.greeted ≡ true }
     requires guest { rows.old.guest < P.guests port.old }
     requires port_pages { P.pages port.old ≡ rows.old.pages }
+    ensures limit { stream.new.limit ≡ stream.old.limit }
     ensures pages { rows.new.pages ≡ rows.old.pages }
     ensures tiles { rows.new.tiles ≡ rows.old.tiles }
     ensures turned { (rest : List ℕ) → StandsFor stream.old rest → Turns O.takes out.old out.new
@@ -134,14 +137,16 @@ fn take_front<P: FramePort, O: Outlet>(
 pub(crate) fn take_unit<P: FramePort, O: Outlet>(
     stream: &mut InStream,
     rows: &mut Rows,
-    desk: &DeskSize,
+    desk: &Desk,
     minor: &mut u32,
     port: &mut P,
     out: &mut O,
 ) -> Turn
     requires fit { FitDesk desk.now }
+    requires limit { stream.old.limit ≡ desk.now.clip_limit }
     requires guest { rows.old.guest < P.guests port.old }
     requires port_pages { P.pages port.old ≡ rows.old.pages }
+    ensures limit { stream.new.limit ≡ stream.old.limit }
     ensures pages { rows.new.pages ≡ rows.old.pages }
     ensures tiles { rows.new.tiles ≡ rows.old.tiles }
     ensures turned { (rest : List ℕ) → StandsFor stream.old rest → Turns O.takes out.old out.new

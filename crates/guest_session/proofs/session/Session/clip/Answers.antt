@@ -1,4 +1,4 @@
-use Rattle.std.proofs.Common.{◌≡◌, sym, ap, subst}
+use Rattle.std.proofs.Common.{◌≡◌, ℕ, sym, ap, subst}
 use Rattle.in_stream.specs.Received.{Received}
 use Rattle.guest_session.specs.Clips.{BeginsWithClip, HasKeptClip}
 use Rattle.guest_session.specs.SessionView.{SessionView}
@@ -13,6 +13,7 @@ returns-in-Whole c = λ header body begins.
 
 pub returns-in_default : goal.returns-in_default
 returns-in_default c =
-    let stream : c.args.self.now.stream ≡ c.self.inside.stream = ap (λ (v : SessionView). v.stream) (sym c.self.view_is) in
-    let w = clip-is_whole c.self.inside.stream c.front.result c.front.ensures (subst HasKeptClip stream c.requires) in
+    let P : SessionView → Type 0 = λ v. HasKeptClip v.sizes.clip_limit v.stream in
+    let Q : ℕ → Type 0 = λ limit. HasKeptClip limit c.self.inside.stream in
+    let w = clip-is_whole c.self.inside.stream c.front.result c.front.ensures (subst Q (sym c.self.invariant.limit) (subst P (sym c.self.view_is) c.requires)) in
     absurd (c.in_default.not-Whole w.0 w.1.0 w.1.1)
