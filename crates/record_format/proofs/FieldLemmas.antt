@@ -8,9 +8,9 @@ use Rattle.byteorder.specs.Endian.{little_number}
 use Rattle.byteorder.specs.Numbers.{little_from-lt}
 use Rattle.gui_wire.specs.Words.{word, word_at}
 use Rattle.gui_wire.proofs.WordLemmas.{AreBytes, AreBytes-drop, AreBytes-take, little_bytes-reads, word_at-fits}
-use Rattle.record_format.specs.Config.{number_at}
+use Rattle.record_format.specs.Config.{number_at, signed_at}
 use Rattle.record_format.specs.ItemSpellings.{half, flag, signed_word}
-use Rattle.record_format.specs.ItemFields.{half_at, signed_at}
+use Rattle.record_format.specs.ItemFields.{half_at}
 
 pub byte_on : (p : ℕ) (bytes : List ℕ) → p < length bytes → drop p bytes ≡ slice_index bytes p ∷ drop (p + 1) bytes
 byte_on p bytes there = drop_more bytes p 0 there

@@ -26,7 +26,7 @@ half_back n rest small = little_number-reads_back 2 n rest small
 unsigned-fits : (z : ℤ) → FitsSigned w32 z → unsigned z < 2 ^ 32
 unsigned-fits z h = let f = Fits-of_z {w = w32} {z = z} h in omega (arith, f)
 
-signed_back : (z : ℤ) (rest : List ℕ) → FitsSigned w32 z → cast_signed w32 (word_at 0 (signed_word z ++ rest)) ≡ z
+pub signed_back : (z : ℤ) (rest : List ℕ) → FitsSigned w32 z → cast_signed w32 (word_at 0 (signed_word z ++ rest)) ≡ z
 signed_back z rest h = ap (cast_signed w32) (word_at-word (unsigned z) rest (unsigned-fits z h)) ∙ to_z-of_z w32 z h
 
 piece_right : (guests guest len : ℕ) → guest < guests → 1 ≤ len → len ≤ 65536 → (nat_lt guest guests && within 1 65536 len) ≡ true

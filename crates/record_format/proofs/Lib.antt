@@ -9,3 +9,6 @@ pub mod ReadConfigLemmas
 pub mod ItemAtLemmas
 pub mod RecordLemmas
 pub mod OutputLemmas
+pub mod ManyLemmas
+pub mod LaterLemmas
+pub mod BehindLemmas

@@ -8,9 +8,9 @@ use Rattle.desk_laws.specs.Rules.{within}
 use Rattle.desk_laws.specs.Items.{FitsItem}
 use Rattle.desk_laws.specs.declared.item.Item.{Item}
 use Rattle.desk_laws.specs.declared.item.Item.TheVariants.{Bytes, Closed, Store, Key, Move, Press, Close, Next, Restore, MoveTo, SizeTo, Snap, End, Lost}
-use Rattle.record_format.specs.Config.{number_at}
+use Rattle.record_format.specs.Config.{number_at, signed_at}
 use Rattle.record_format.specs.ItemSpellings.{half, flag, signed_word, command, item_spelling, FitsRecord}
-use Rattle.record_format.specs.ItemFields.{fields_len, FieldsWithin, HasFields, half_at, signed_at, if_right, is_change, piece_read, guest_read, store_read, key_read, move_read, press_read, plain_read, command_read, item_read, IsSpelledBy}
+use Rattle.record_format.specs.ItemFields.{fields_len, FieldsWithin, HasFields, half_at, if_right, is_change, piece_read, guest_read, store_read, key_read, move_read, press_read, plain_read, command_read, item_read, IsSpelledBy}
 use Rattle.record_format.proofs.FieldLemmas.{byte_on, word_on, half_on, half_small, signed_on, signed_fits, flag_on, kind_on}
 
 -- the kind is none of an item's

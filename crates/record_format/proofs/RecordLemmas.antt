@@ -18,15 +18,18 @@ use Rattle.desk_laws.specs.Frames.{counted}
 use Rattle.desk_laws.specs.declared.item.Item.{Item}
 use Rattle.desk_laws.specs.Items.{FedItem, FitsItem}
 use Rattle.gui_wire.proofs.WordLemmas.{AreBytes, AreBytes-drop}
-use Rattle.record_format.specs.Config.{Wrong, fault, config_of, config_len, config_spelling}
+use Rattle.record_format.specs.Config.{Wrong, fault, version_of, outputs_len, clipboard_len, config_of, config_len, config_spelling}
+use Rattle.record_format.specs.declared.version.Version.{Version}
+use Rattle.record_format.specs.declared.version.Version.TheVariants.{First, Second, Third}
 use Rattle.record_format.specs.ItemSpellings.{fed_spelling, items_spelling}
 use Rattle.record_format.specs.RecordGrammar.{Ending, Ends, Faulty, Items, Run, alone, is_end, nothing_but, item_and, with_front, item_at, items_step, items_within, items_from, started, record_of, whole}
 use Rattle.record_format.specs.RecordLaws.{CanStand, AreItems, offset_behind, ItemsAreRead, WholeRecordsAreRead, CutRecordsAreShort, StandsBehind, ReadRecordsWereSpelled}
 use Rattle.record_format.proofs.ItemAtLemmas.{item_found, item_parts, ItemWas, item_was}
 use Rattle.record_format.proofs.ReadItemLemmas.{RangesHold, item_ranged}
 use Rattle.record_format.proofs.ConfigLemmas.{config_back}
-use Rattle.record_format.proofs.ReadConfigLemmas.{rest_are, config_was}
-use Rattle.record_format.proofs.SetupLemmas.{fits_of}
+use Rattle.record_format.proofs.ManyLemmas.{rest_are}
+use Rattle.record_format.proofs.ReadConfigLemmas.{config_was}
+use Rattle.record_format.proofs.SetupLemmas.{fits_of, few_pairs}
 
 -- ---- the items from an offset on
 
@@ -112,8 +115,23 @@ sum_small (g ∷ guests) right =
     let few : length g.name ≤ 32 = grind (arith, nat_tests, both.0) in
     omega (arith, sum_small guests both.1, sum_by-cons (λ h. 5 + length h.name) g guests)
 
+pub outputs_small : (version : Version) (n : ℕ) → n ≤ 8 → outputs_len version n ≤ 129
+outputs_small First n few = omega arith
+outputs_small Second n few = omega (arith, few)
+outputs_small Third n few = omega (arith, few)
+
+pub clipboard_small : (version : Version) (n : ℕ) → n ≤ 255 → clipboard_len version n ≤ 512
+clipboard_small First n few = omega arith
+clipboard_small Second n few = omega arith
+clipboard_small Third n few = omega (arith, few)
+
 config_small : (s : Setup) → first_broken s ≡ None → counted (config_len s) ≡ config_len s
-config_small s right = let fits = fits_of s right in omega (arith, sum_small s.guests fits.names, fits.guests)
+config_small s right =
+    let fits = fits_of s right in
+    let later = fits.later in
+    let outputs = outputs_small (version_of s) (length s.outputs) later.outputs in
+    let clipboard = clipboard_small (version_of s) (length s.denied) (few_pairs (length s.guests) s.denied fits.guests later.pairs later.rising) in
+    omega (arith, sum_small s.guests fits.names, fits.guests, outputs, clipboard)
 
 pub items_are_read : ItemsAreRead
 items_are_read setup given tail right fit =

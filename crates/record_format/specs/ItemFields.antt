@@ -1,13 +1,12 @@
 -- What a kind byte and the fixed fields behind it say, field by field.
-use Rattle.std.specs.Prelude.{◌≤◌, ℕ, ◌+◌, ◌-◌, ◌%◌, List, length, drop, slice_index, Bool, ◌&&◌, ◌==◌, nat_lt, nat_le, if◌then◌else◌, Option, Some, None, ℤ}
-use Rattle.std.specs.Int.{w32, cast_signed}
+use Rattle.std.specs.Prelude.{◌≤◌, ℕ, ◌+◌, ◌-◌, ◌%◌, List, length, drop, slice_index, Bool, ◌&&◌, ◌==◌, nat_lt, nat_le, if◌then◌else◌, Option, Some, None}
 use Rattle.byteorder.specs.Endian.{little_number}
 use Rattle.io_ports.specs.Content.{IsPrefix}
 use Rattle.desk_laws.specs.declared.item.Item.{Item}
 use Rattle.desk_laws.specs.declared.item.Item.TheVariants.{Bytes, Closed, Store, Key, Move, Press, Close, Next, Restore, MoveTo, SizeTo, Snap, End, Lost}
 use Rattle.desk_laws.specs.declared.limits.TheConstants.{MAX_PIECE, PAGE_BYTES}
 use Rattle.desk_laws.specs.Rules.{within}
-use Rattle.record_format.specs.Config.{number_at}
+use Rattle.record_format.specs.Config.{number_at, signed_at}
 use Rattle.record_format.specs.ItemSpellings.{item_spelling, FitsRecord}
 
 -- how many bytes the fixed fields of a kind have, but for Config's
@@ -38,10 +37,6 @@ pub record HasFields (bytes : List ℕ) : Type 0 where
 -- the number of two bytes, the lowest first, from this place on
 abbrev pub half_at : ℕ → List ℕ → ℕ
 half_at place bytes = little_number 2 (drop place bytes)
-
--- the signed number of four bytes from this place on
-abbrev pub signed_at : ℕ → List ℕ → ℤ
-signed_at place bytes = cast_signed w32 (number_at place bytes)
 
 -- an item and how many bytes come with it, where its fields are right
 abbrev pub if_right : Bool → Item → ℕ → Option (Item × ℕ)

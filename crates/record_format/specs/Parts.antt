@@ -26,3 +26,16 @@ IsWrong (Some (reads.Bad f)) wrong = wrong ≡ Some (Fault f)
 IsWrong (Some (reads.Rule k)) wrong = wrong ≡ Some (Rule k)
 IsWrong (Some reads.Failed) wrong = ⊥
 IsWrong (Some reads.NoMemory) wrong = ⊥
+
+-- what a test of bytes answered is what the grammar says of them
+abbrev pub Agrees : {X : Type 0} → Result X ConfigRead → Result X Wrong → Type 0
+Agrees (Ok x) said = said ≡ Ok x
+Agrees (Err (reads.Bad f)) said = said ≡ Err (Fault f)
+Agrees (Err (reads.Rule k)) said = said ≡ Err (Rule k)
+Agrees (Err reads.Failed) said = ⊥
+Agrees (Err reads.NoMemory) said = ⊥
+
+-- a room that was filled, as what was read
+abbrev pub with_room : Result ⊤ ConfigRead → List ℕ → Result (List ℕ) ConfigRead
+with_room (Ok done) room = Ok room
+with_room (Err e) room = Err e

@@ -2,9 +2,9 @@
 ghost use Rattle.std.specs.Prelude.{◌≡◌, ◌≤◌, ◌+◌, ◌-◌, ◌++◌, ℕ, List, length, slice_index, Some, IfSome};
 ghost use Rattle.desk_laws.specs.declared.item.Item.{Item as AnyItem};
 ghost use Rattle.record_format.specs.ItemSpellings.{item_spelling, HasWidths, FitsRecord};
-ghost use Rattle.record_format.specs.ItemFields.{fields_len, HasFields, half_at, signed_at, if_right, is_change, piece_read, guest_read, store_read, key_read, move_read, press_read, plain_read, command_read, item_read, IsSpelledBy};
+ghost use Rattle.record_format.specs.ItemFields.{fields_len, HasFields, half_at, if_right, is_change, piece_read, guest_read, store_read, key_read, move_read, press_read, plain_read, command_read, item_read, IsSpelledBy};
 
-use crate::config::number_at;
+use crate::config::{number_at, signed_at};
 use desk_laws::{Item, MAX_PIECE, PAGE_BYTES, Setup};
 
 /// How many bytes the fixed fields of an item have behind its kind byte, at most 15: `None` exactly for a
@@ -35,13 +35,6 @@ fn half_at(bytes: &[u8], place: usize) -> u16
     ensures { result ≡ half_at place bytes.now }
 {
     u16::from_le_bytes([bytes[place], bytes[place + 1]])
-}
-
-fn signed_at(bytes: &[u8], place: usize) -> i32
-    requires { place + 4 ≤ length bytes.now }
-    ensures { result ≡ signed_at place bytes.now }
-{
-    number_at(bytes, place).cast_signed()
 }
 
 // An item, where its fields are right.

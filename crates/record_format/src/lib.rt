@@ -2,15 +2,20 @@
 //! spelled, and how what the desktop posts is spelled and read. It knows nothing of the desk.
 #![tactic(auto)]
 
+mod clipboard;
+mod clipboard_out;
 mod config;
 mod config_out;
 mod item;
 mod item_out;
 mod law;
+mod outputs;
+mod outputs_out;
 mod part;
 mod post;
 #[cfg(test)]
 mod tests;
+mod version;
 
 pub use config::{ConfigRead, read_config};
 pub use config_out::{config_len, put_config};

@@ -8,20 +8,37 @@ use crate::{
     ConfigRead, Post, config_len, fixed_len, item_of, item_within, post_of, put_config,
     read_config, spell_item,
 };
-use desk_laws::{GuestSetup, Guests, Item, MAX_GUESTS, MAX_PAGES, Name, Setup};
-use gui_num::Colour;
-use io_ports::{MemSink, MemSource};
+use desk_laws::{GuestSetup, Guests, Item, MAX_GUESTS, MAX_PAGES, Name, Outputs, Pairs, Setup};
+use gui_num::{Colour, Rect};
+use io_ports::{MemSink, MemSource, RecordFault, RecordKind};
 use std::alloc::Global;
 use std::process::Abort;
 use std::test::Fail;
 
-// A desktop of 8 by 6 pixels, borders of one pixel, and the guest `red`.
-fn small_desktop(alloc: Global) -> Result<Setup, Fail> {
+fn red(alloc: Global) -> Result<Guests, Fail> {
     let mut guests = Guests::new(alloc);
     guests.push(GuestSetup {
         colour: Colour(0xff_0000),
         name: Name::new(b"red"),
     })?;
+    Ok(guests)
+}
+
+fn one_output(alloc: Global) -> Result<Outputs, Fail> {
+    let mut outputs = Outputs::new(alloc);
+    outputs.push(Rect {
+        x: 0,
+        y: 0,
+        w: 8,
+        h: 6,
+    })?;
+    Ok(outputs)
+}
+
+// A desktop of 8 by 6 pixels, borders of one pixel, and the guest `red`.
+fn small_desktop(alloc: Global) -> Result<Setup, Fail> {
+    let guests = red(alloc)?;
+    let outputs = one_output(alloc)?;
     Ok(Setup {
         width: 8,
         height: 6,
@@ -31,6 +48,9 @@ fn small_desktop(alloc: Global) -> Result<Setup, Fail> {
         percent: 90,
         background: Colour(0),
         guests,
+        outputs,
+        clip: 1,
+        denied: Pairs::new(alloc),
     })
 }
 
@@ -176,6 +196,131 @@ fn numbers_of_guests(rt: HostRuntime) -> Result<(), Fail> {
     assert!(rt; matches!(read_with(&rt, 17)?, Err(ConfigRead::Rule(1))));
     assert!(rt; matches!(read_with(&rt, 16)?, Err(ConfigRead::Bad(_))));
     Ok(())
+}
+
+// A plane of 12 by 6 pixels with the guest `red`, up to the outputs.
+const RED: [u8; 42] = [
+    81, 71, 82, 50, 1, 12, 0, 0, 0, 6, 0, 0, 0, 1, 0, 0, 0, 0, 32, 0, 0, 0, 16, 0, 0, 90, 0, 0, 0,
+    0, 0, 0, 0, 1, 0, 0, 255, 0, 3, 114, 101, 100,
+];
+
+// The same in version 3, with the one output of the whole plane, up to the clipboard.
+const RED_WHOLE: [u8; 59] = [
+    81, 71, 82, 51, 1, 12, 0, 0, 0, 6, 0, 0, 0, 1, 0, 0, 0, 0, 32, 0, 0, 0, 16, 0, 0, 90, 0, 0, 0,
+    0, 0, 0, 0, 1, 0, 0, 255, 0, 3, 114, 101, 100, 1, 0, 0, 0, 0, 0, 0, 0, 0, 12, 0, 0, 0, 6, 0, 0,
+    0,
+];
+
+// What these bytes are refused for.
+fn is_refused(rt: &impl Abort, alloc: Global, bytes: &[u8], why: ConfigRead) -> Result<(), Fail> {
+    let mut source = MemSource::new(alloc, bytes, &[])?;
+    match read_config(alloc, &mut source) {
+        Err(e) => assert_eq!(rt; e, why),
+        Ok(_) => assert!(rt; false),
+    }
+    Ok(())
+}
+
+// What a record is refused for that begins so, and goes on so.
+fn goes_wrong(
+    rt: &impl Abort,
+    alloc: Global,
+    front: &[u8],
+    later: &[u8],
+    why: ConfigRead,
+) -> Result<(), Fail>
+    requires front { length front.now ≤ 59 }
+    requires later { length later.now ≤ 33 }
+{
+    let mut bytes = [0u8; 92];
+    let size = front.len() + later.len();
+    bytes[..front.len()].copy_from_slice(front);
+    bytes[front.len()..size].copy_from_slice(later);
+    is_refused(rt, alloc, &bytes[..size], why)
+}
+
+const RANGE: ConfigRead = ConfigRead::Bad(RecordFault {
+    offset: 4,
+    kind: RecordKind::Range,
+});
+
+#[test]
+fn numbers_of_outputs(rt: HostRuntime) -> Result<(), Fail> {
+    let rule = ConfigRead::Rule(17);
+    goes_wrong(&rt, rt.alloc(), &RED, &[0], rule)?;
+    goes_wrong(&rt, rt.alloc(), &RED, &[9], rule)
+}
+
+// An output of 13 by 6, two that share a column, and the whole plane.
+#[test]
+fn wrong_outputs(rt: HostRuntime) -> Result<(), Fail> {
+    let wide: [u8; 17] = [1, 0, 0, 0, 0, 0, 0, 0, 0, 13, 0, 0, 0, 6, 0, 0, 0];
+    goes_wrong(&rt, rt.alloc(), &RED, &wide, ConfigRead::Rule(18))?;
+    let shared: [u8; 33] = [
+        2, 0, 0, 0, 0, 0, 0, 0, 0, 5, 0, 0, 0, 6, 0, 0, 0, 4, 0, 0, 0, 0, 0, 0, 0, 5, 0, 0, 0, 6,
+        0, 0, 0,
+    ];
+    goes_wrong(&rt, rt.alloc(), &RED, &shared, ConfigRead::Rule(19))?;
+    let whole: [u8; 17] = [1, 0, 0, 0, 0, 0, 0, 0, 0, 12, 0, 0, 0, 6, 0, 0, 0];
+    goes_wrong(&rt, rt.alloc(), &RED, &whole, RANGE)
+}
+
+// The revision 3, the pair of a guest and itself, and what needs no version 3.
+#[test]
+fn wrong_clipboards(rt: HostRuntime) -> Result<(), Fail> {
+    goes_wrong(&rt, rt.alloc(), &RED_WHOLE, &[3, 0], ConfigRead::Rule(20))?;
+    let itself: [u8; 4] = [1, 1, 0, 0];
+    goes_wrong(&rt, rt.alloc(), &RED_WHOLE, &itself, ConfigRead::Rule(21))?;
+    goes_wrong(&rt, rt.alloc(), &RED_WHOLE, &[1, 0], RANGE)
+}
+
+// Writes what is read of these bytes: the same bytes.
+fn both_ways(rt: &impl Abort, alloc: Global, bytes: &[u8]) -> Result<(), Fail> {
+    let mut source = MemSource::new(alloc, bytes, &[])?;
+    let setup = match read_config(alloc, &mut source) {
+        Ok(setup) => setup,
+        Err(_) => {
+            assert!(rt; false);
+            return Ok(());
+        }
+    };
+    let mut out = MemSink::new(alloc, &[])?;
+    assert!(rt; put_config(&setup, &mut out).is_ok());
+    assert_eq!(rt; out.bytes(), bytes);
+    assert_eq!(rt; config_len(&setup), bytes.len() as u64);
+    Ok(())
+}
+
+// Two outputs of 5 by 6, at (0,0) and (7,0).
+#[test]
+fn two_outputs(rt: HostRuntime) -> Result<(), Fail> {
+    let spelled: [u8; 75] = [
+        81, 71, 82, 50, 1, 12, 0, 0, 0, 6, 0, 0, 0, 1, 0, 0, 0, 0, 32, 0, 0, 0, 16, 0, 0, 90, 0, 0,
+        0, 0, 0, 0, 0, 1, 0, 0, 255, 0, 3, 114, 101, 100, 2, 0, 0, 0, 0, 0, 0, 0, 0, 5, 0, 0, 0, 6,
+        0, 0, 0, 7, 0, 0, 0, 0, 0, 0, 0, 5, 0, 0, 0, 6, 0, 0, 0,
+    ];
+    both_ways(&rt, rt.alloc(), &spelled)
+}
+
+// `TWO_GUESTS` in version 3, with the one output of the whole plane, the revision 1 and the pairs (0,1), (1,0).
+const TWO_PAIRS: [u8; 71] = [
+    81, 71, 82, 51, 1, 8, 0, 0, 0, 6, 0, 0, 0, 1, 0, 0, 0, 0, 32, 0, 0, 0, 16, 0, 0, 90, 0, 0, 0,
+    0, 0, 0, 0, 2, 0, 0, 255, 0, 3, 114, 101, 100, 255, 0, 0, 0, 1, 98, 1, 0, 0, 0, 0, 0, 0, 0, 0,
+    8, 0, 0, 0, 6, 0, 0, 0, 1, 2, 0, 1, 1, 0,
+];
+
+#[test]
+fn pairs(rt: HostRuntime) -> Result<(), Fail> {
+    both_ways(&rt, rt.alloc(), &TWO_PAIRS)
+}
+
+// The same pairs in the other order.
+#[test]
+fn pairs_that_do_not_rise(rt: HostRuntime) -> Result<(), Fail> {
+    let pairs: [u8; 6] = [1, 2, 1, 0, 0, 1];
+    let mut bytes = TWO_PAIRS;
+    bytes[65..].copy_from_slice(&pairs);
+    is_refused(&rt, rt.alloc(), &bytes, ConfigRead::Rule(22))
 }
 
 // A reply to guest 1 of the bytes `hi`, and then a summary.
