@@ -4,6 +4,7 @@ use Rattle.std.specs.Prelude.{nat_lt}
 use Rattle.std.proofs.lemmas.Bool.Decides.{nat_tests}
 use Rattle.std.proofs.Math.Seq.{take-append_seam}
 use Rattle.std.proofs.lemmas.List.{get_or_past}
+use Rattle.gui_num.specs.declared.Rect.{Rect}
 use Rattle.desk_laws.specs.declared.setup.Setup.{Setup}
 use Rattle.desk_laws.specs.Stream.{front, Wait}
 use Rattle.desk_laws.specs.declared.item.Item.{Item}
@@ -117,6 +118,7 @@ module _ (setup : Setup) (held : ℕ → List ℕ) (desk : WindowsView) (session
       width = stands.numbers.width;
       height = stands.numbers.height;
       background = stands.numbers.background;
+      outputs = stands.numbers.outputs;
       border = stands.numbers.border;
       labels = stands.numbers.labels;
       wide = stands.numbers.wide;
@@ -145,21 +147,21 @@ event-posts setup i state =
 -- an event was taken on every scene of these numbers that the windows and the seat are those of
 abbrev pub TakesEvent : {O : Type 0} → (O → Post → O → Type 0) → O → O → Item → WindowsView → List SessionView → Layers → Seat → Seat → Type 0
 TakesEvent takes out out' i desk sessions layers seat seat' =
-    (setup : Setup) (scene : Scene) → setup.border ≡ desk.border → setup.width ≡ desk.picture.width → setup.height ≡ desk.picture.height
+    (setup : Setup) (scene : Scene) → setup.border ≡ desk.border → setup.outputs ≡ desk.picture.outputs
     → IsScene desk.sessions desk.layers seat scene → IsSettled (sizes_of setup) scene
     → EventTakes takes out out' desk.sessions sessions layers seat' (sizes_of setup) (and_then (perform (route setup i scene) scene) (settle (sizes_of setup)))
 
 -- the same from what was taken of other names of these numbers and sessions
-pub event-seen : {O : Type 0} (takes : O → Post → O → Type 0) (out out' : O) (i : Item) (desk : WindowsView) (first sessions : List SessionView) (layers : Layers) (seat seat' : Seat) (width height : ℕ)
-    → first ≡ desk.sessions → width ≡ desk.picture.width → height ≡ desk.picture.height
-    → ((setup : Setup) (scene : Scene) → setup.border ≡ desk.border → setup.width ≡ width → setup.height ≡ height
+pub event-seen : {O : Type 0} (takes : O → Post → O → Type 0) (out out' : O) (i : Item) (desk : WindowsView) (first sessions : List SessionView) (layers : Layers) (seat seat' : Seat) (outputs : List Rect)
+    → first ≡ desk.sessions → outputs ≡ desk.picture.outputs
+    → ((setup : Setup) (scene : Scene) → setup.border ≡ desk.border → setup.outputs ≡ outputs
     → IsScene first desk.layers seat scene → IsSettled (sizes_of setup) scene
     → EventTakes takes out out' first sessions layers seat' (sizes_of setup) (and_then (perform (route setup i scene) scene) (settle (sizes_of setup))))
     → TakesEvent takes out out' i desk sessions layers seat seat'
-event-seen takes out out' i desk first sessions layers seat seat' width height same wide high took = λ setup scene border w h is still.
+event-seen takes out out' i desk first sessions layers seat seat' outputs same shown took = λ setup scene border o is still.
     let whole : SceneOutcome = and_then (perform (route setup i scene) scene) (settle (sizes_of setup)) in
     subst (λ ss. EventTakes takes out out' ss sessions layers seat' (sizes_of setup) whole) same
-    (took setup scene border (w ∙ sym wide) (h ∙ sym high) (subst (λ ss. IsScene ss desk.layers seat scene) (sym same) is) still)
+    (took setup scene border (o ∙ sym shown) (subst (λ ss. IsScene ss desk.layers seat scene) (sym same) is) still)
 
 -- sessions written back over those that were there
 pub written-back : {X : Type 0} (n : ℕ) (new rest : List X) → length new ≡ n → take n (new ++ rest) ≡ new
@@ -178,7 +180,7 @@ module _ {O : Type 0} (takes : O → Post → O → Type 0) (out out' : O) (i : 
       let n = stands.numbers in
       let is : IsScene desk.sessions desk.layers seat state.scene =
       subst (λ (s : Seat). IsScene desk.sessions desk.layers s state.scene) has.same (windows-scene setup held desk frames state stands) in
-      taken setup state.scene (sym n.border) (sym n.width) (sym n.height) is has.settled
+      taken setup state.scene (sym n.border) (sym n.outputs) is has.settled
 
   -- the windows and the seat stand for the state after it
   pub event-stands : (setup : Setup) (held : ℕ → List ℕ) (frames : ℕ → PortState) (state : DeskState) → StandsWith setup held desk frames state → HasSeat setup seat state

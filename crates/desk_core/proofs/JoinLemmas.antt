@@ -103,6 +103,7 @@ join setup guest held held' desk desk' frames frames' before after stands own le
     width = ap (λ (d : WindowsView). d.picture.width) alone.rest ∙ n.width;
     height = ap (λ (d : WindowsView). d.picture.height) alone.rest ∙ n.height;
     background = ap (λ (d : WindowsView). d.picture.background) alone.rest ∙ n.background;
+    outputs = ap (λ (d : WindowsView). d.picture.outputs) alone.rest ∙ n.outputs;
     border = ap (λ (d : WindowsView). d.border) alone.rest ∙ n.border;
     labels = λ g below. ap (λ (d : WindowsView). slice_get d.labels g) alone.rest ∙ n.labels g below;
     wide = n.wide;

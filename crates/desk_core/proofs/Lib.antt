@@ -20,6 +20,7 @@ pub mod PieceLemmas
 pub mod StoreLemmas
 pub mod StepLemmas
 pub mod PaneLemmas
+pub mod OutputLemmas
 pub mod PaintLemmas
 pub mod LayerLemmas
 pub mod GrantScenes

@@ -11,16 +11,17 @@ use Rattle.std.proofs.lemmas.List.Sorted.{IsPermutation-reverse, list_any-IsPerm
 use Rattle.std.proofs.lemmas.Option.{get_or_from_slice_get, none-some, slice_get_within}
 use Rattle.gui_num.specs.declared.Point.{Point}
 use Rattle.gui_num.specs.declared.Colour.{Colour}
+use Rattle.gui_num.specs.declared.Rect.{Rect}
 use Rattle.gui_num.specs.Rects as rects
 use Rattle.gui_num.specs.Rects.{has, grown}
-use Rattle.compositor.specs.Composed.{Pane, all_pixels, at_pixel, columns, composed, pane_colour}
+use Rattle.compositor.specs.Composed.{Pane, all_pixels, at_pixel, columns, pane_colour, shown_at}
 use Rattle.compositor.specs.Composed as panes
 use Rattle.desk_laws.specs.declared.row_id.RowId.{RowId}
 use Rattle.desk_laws.specs.declared.setup.Setup.{Setup}
 use Rattle.desk_laws.specs.Rows.{Row, content_at, is_row, is_shown, mine, outer, row_at, row_with, same_row, span}
 use Rattle.desk_laws.specs.Layers.{Layers, id_from_top, is_in, last_that, or_else}
-use Rattle.desk_laws.specs.Picture.{colour_at, colour_by, colour_read, content_under, label_of, picture, pixels}
-use Rattle.desk_laws.specs.Picture as pictures
+use Rattle.desk_laws.specs.Outputs.{is_in_output}
+use Rattle.desk_laws.specs.Picture.{colour_by, colour_read, content_under, label_of, pixels}
 use Rattle.desk_laws.specs.Frames.{PortState}
 use Rattle.desk_laws.specs.State.{DeskState}
 use Rattle.desk_laws.proofs.FollowChanges.{row_with-mine}
@@ -31,6 +32,7 @@ use Rattle.guest_session.specs.SessionView.{SessionView}
 use Rattle.desk_core.specs.WindowsStand.{StandsWith}
 use Rattle.desk_core.specs.WindowsView.{WindowsView, no_session}
 use Rattle.desk_core.specs.ShownView.{ShownView}
+use Rattle.desk_core.specs.Painting.{colour_in, plane}
 use Rattle.desk_core.specs.Panes.{bordered, label_in, pane_of, rows_in, shown_row, shown_with, shown_of}
 
 -- ---- all pixels
@@ -50,10 +52,6 @@ map-agree f g same [] = refl
 map-agree f g same (x ∷ xs) = ap (λ y. y ∷ map f xs) (same x) ∙ ap (λ ys. g x ∷ ys) (map-agree f g same xs)
 
 -- ---- one window
-
-same-nat : (z : ℤ) → rects.nat_of z ≡ pictures.nat_of z
-same-nat (pos n) = refl
-same-nat (negsuc n) = refl
 
 or-grey : (o : Option ℕ) → panes.colour_or 0x808080 (option_map (λ c. record { 0 = c }) o) ≡ colour_read o
 or-grey None = refl
@@ -126,9 +124,7 @@ module _ (setup : Setup) (border : ℕ) (labels : List Colour) (sessions : List 
       let y = p.y -ℤ row.place.y in
       let content : panes.content_under (pane (bordered border (label_in labels id.guest) id row.place)) p ≡ colour_read (content_under row p) =
       ap (λ o. panes.colour_or 0x808080 (option_map (λ c. record { 0 = c }) (content_in o (rects.nat_of x) (rects.nat_of y)))) (same id ∙ found)
-      ∙ or-grey (content_at row (rects.nat_of x) (rects.nat_of y))
-      ∙ ap (λ n. colour_read (content_at row n (rects.nat_of y))) (same-nat x)
-      ∙ ap (λ n. colour_read (content_at row (pictures.nat_of x) n)) (same-nat y) in
+      ∙ or-grey (content_at row (rects.nat_of x) (rects.nat_of y)) in
       let ring : (label_in labels id.guest).0 ≡ label_of setup row.guest =
       ap (λ (c : Colour). c.0) (told id row found) ∙ ap (label_of setup) (sym (found-guest id rows row found)) in
       ap (λ c. if has row.place p then c else (label_in labels id.guest).0) content
@@ -173,10 +169,10 @@ module _ (setup : Setup) (border : ℕ) (labels : List Colour) (sessions : List 
       (agree-or setup p above _ over _ (agree p ids) one))
 
   pub painted-is : (layers : Layers) (w h : ℕ)
-      → map (composed setup.background.0 (map pane (shown_of border labels sessions layers))) (all_pixels w h) ≡ map (colour_at setup rows layers) (pixels 0 0 w h)
+      → map (shown_at setup.background.0 (map pane (shown_of border labels sessions layers)) setup.outputs) (all_pixels w h) ≡ map (colour_in setup rows layers) (pixels 0 0 w h)
   painted-is layers w h =
-      map-agree _ _ (λ p. agree-colour setup p _ _ (agree p (layers.normal ++ layers.over))) (all_pixels w h)
-      ∙ ap (map (colour_at setup rows layers)) (same-pixels w h)
+      map-agree _ _ (λ p. ap (λ (c : ℕ). if is_in_output setup.outputs p then c else 0) (agree-colour setup p _ _ (agree p (layers.normal ++ layers.over)))) (all_pixels w h)
+      ∙ ap (map (colour_in setup rows layers)) (same-pixels w h)
 
 -- ---- a desk that stands for a state
 
@@ -244,17 +240,19 @@ module _ (setup : Setup) (held : ℕ → List ℕ) (desk : WindowsView) (frames 
   label-there k id at =
       slice_get_within desk.labels id.guest (record { 0 = label_of setup id.guest }) (stands.numbers.labels id.guest (layer-there k id at))
 
-  -- what is painted is the picture
+  -- what is painted is the plane
   pub desk-painted : (colours : List ℕ)
-      → colours ≡ map (composed desk.picture.background (map (pane_of desk.sessions) (shown_of desk.border desk.labels desk.sessions desk.layers))) (all_pixels desk.picture.width desk.picture.height)
-      → colours ≡ picture setup rows state.scene.layers
+      → colours ≡ map (shown_at desk.picture.background (map (pane_of desk.sessions) (shown_of desk.border desk.labels desk.sessions desk.layers)) desk.picture.outputs) (all_pixels desk.picture.width desk.picture.height)
+      → colours ≡ plane setup rows state.scene.layers
   desk-painted colours is =
       let w = desk.picture.width in
       let h = desk.picture.height in
+      let panes = map (pane_of desk.sessions) (shown_of desk.border desk.labels desk.sessions desk.layers) in
       let part = stands.parts 0 (omega (arith, stands.numbers.some)) in
       is
-      ∙ ap (λ b. map (composed b (map (pane_of desk.sessions) (shown_of desk.border desk.labels desk.sessions desk.layers))) (all_pixels w h)) stands.numbers.background
+      ∙ ap (λ b. map (shown_at b panes desk.picture.outputs) (all_pixels w h)) stands.numbers.background
+      ∙ ap (λ (os : List Rect). map (shown_at setup.background.0 panes os) (all_pixels w h)) stands.numbers.outputs
       ∙ painted-is setup desk.border desk.labels desk.sessions rows stands.numbers.border same-row label-told desk.layers w h
-      ∙ ap (λ (l : Layers). map (colour_at setup rows l) (pixels 0 0 w h)) (sym part.layers)
-      ∙ ap (λ n. map (colour_at setup rows state.scene.layers) (pixels 0 0 n h)) stands.numbers.width
-      ∙ ap (λ n. map (colour_at setup rows state.scene.layers) (pixels 0 0 setup.width n)) stands.numbers.height
+      ∙ ap (λ (l : Layers). map (colour_in setup rows l) (pixels 0 0 w h)) (sym part.layers)
+      ∙ ap (λ n. map (colour_in setup rows state.scene.layers) (pixels 0 0 n h)) stands.numbers.width
+      ∙ ap (λ n. map (colour_in setup rows state.scene.layers) (pixels 0 0 setup.width n)) stands.numbers.height

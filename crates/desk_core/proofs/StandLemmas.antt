@@ -234,6 +234,7 @@ counts-with setup held desk frames state stands = record {
     width = stands.numbers.width;
     height = stands.numbers.height;
     background = stands.numbers.background;
+    outputs = stands.numbers.outputs;
     border = stands.numbers.border;
     labels = stands.numbers.labels;
     wide = stands.numbers.wide;
@@ -274,13 +275,14 @@ counts-rest setup desk frames state rests = record {
 
 -- another picture of the same sides
 pub picture-with : (setup : Setup) (held : ℕ → List ℕ) (old new : WindowsView) (frames : ℕ → PortState) (state : DeskState) → new ≡ record old { picture = new.picture }
-    → (new.picture.width ≡ old.picture.width) × (new.picture.height ≡ old.picture.height) × (new.picture.background ≡ old.picture.background)
+    → (new.picture.width ≡ old.picture.width) × (new.picture.height ≡ old.picture.height) × (new.picture.background ≡ old.picture.background) × (new.picture.outputs ≡ old.picture.outputs)
     → StandsWith setup held old frames state → StandsWith setup held new frames state
 picture-with setup held old new frames state same sides stands = record {
   numbers = record {
     width = sides.0 ∙ stands.numbers.width;
     height = sides.1 ∙ stands.numbers.height;
     background = sides.2 ∙ stands.numbers.background;
+    outputs = sides.3 ∙ stands.numbers.outputs;
     border = ap (λ (d : WindowsView). d.border) same ∙ stands.numbers.border;
     labels = λ guest below. ap (λ (d : WindowsView). slice_get d.labels guest) same ∙ stands.numbers.labels guest below;
     wide = stands.numbers.wide;
@@ -296,7 +298,7 @@ picture-with setup held old new frames state same sides stands = record {
 }
 
 pub picture-rest : (setup : Setup) (old new : WindowsView) (frames : ℕ → PortState) (state : DeskState) → new ≡ record old { picture = new.picture }
-    → (new.picture.width ≡ old.picture.width) × (new.picture.height ≡ old.picture.height) × (new.picture.background ≡ old.picture.background)
+    → (new.picture.width ≡ old.picture.width) × (new.picture.height ≡ old.picture.height) × (new.picture.background ≡ old.picture.background) × (new.picture.outputs ≡ old.picture.outputs)
     → AreAtRest setup old frames state → AreAtRest setup new frames state
 picture-rest setup old new frames state same sides rests = record {
   with_rest = picture-with setup (rests_of state) old new frames state same sides rests.with_rest;

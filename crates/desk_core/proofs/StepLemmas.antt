@@ -9,7 +9,6 @@ use Rattle.desk_laws.specs.declared.setup.Setup.{Setup}
 use Rattle.desk_laws.specs.Edges.{EdgesStayApart}
 use Rattle.desk_laws.specs.Endings.{is_item_of}
 use Rattle.desk_laws.specs.Frames.{PortState, counted}
-use Rattle.desk_laws.specs.Picture.{picture}
 use Rattle.desk_laws.specs.Scene.{Post, Scene, Closing, Losing}
 use Rattle.desk_laws.specs.Settle.{IsSettled}
 use Rattle.desk_laws.specs.Sizes.{sizes_of}
@@ -18,6 +17,7 @@ use Rattle.desk_laws.specs.Steps.{step, end_session, store_of_open, take_bytes, 
 use Rattle.desk_laws.proofs.EdgeLemmas.{pictures-keep_edges}
 use Rattle.desk_laws.proofs.SoundLemmas.{steps-keep_sound}
 use Rattle.io_ports.specs.Posts.{Leads}
+use Rattle.compositor.specs.PictureView.{shown_area}
 use Rattle.desk_core.specs.DeskView.{DeskView, guests_of, pages_of, session_in}
 use Rattle.desk_core.specs.WindowsView as of_windows
 use Rattle.desk_core.specs.WindowsView.{ChangesPart, WindowsView}
@@ -25,7 +25,7 @@ use Rattle.desk_core.specs.DeskPosts.{guest_posts}
 use Rattle.desk_core.specs.DeskStands.{IsAtRest, Stands, StepsTo, counted_in}
 use Rattle.desk_core.specs.WindowsStand.{AreAtRest, StoresTo}
 use Rattle.desk_core.specs.ItemSteps.{TakesItem}
-use Rattle.desk_core.specs.Painting.{painted_after}
+use Rattle.desk_core.specs.Painting.{painted_after, plane}
 use Rattle.desk_core.specs.Settling.{HasSeat}
 use Rattle.desk_core.proofs.JoinLemmas.{alone-pages}
 use Rattle.desk_core.proofs.StandLemmas.{counts-rest, picture-rest}
@@ -116,9 +116,9 @@ stores-steps takes out setup desk frames state outcome seated stored same =
 -- the picture is drawn
 pub snap-item : {O : Type 0} (takes : O → Post → O → Type 0) (out : O) (item : Item) (piece : List ℕ) (old counted-old new : DeskView) (frames : ℕ → PortState) → item ≡ items.Snap → counted-old ≡ counted_in old
     → new ≡ record counted-old { windows = record counted-old.windows { picture = new.windows.picture } }
-    → (new.windows.picture.width ≡ counted-old.windows.picture.width) × (new.windows.picture.height ≡ counted-old.windows.picture.height) × (new.windows.picture.background ≡ counted-old.windows.picture.background)
-    → new.windows.picture.painted ≡ counted (counted-old.windows.picture.painted + counted-old.windows.picture.width * counted-old.windows.picture.height)
-    → ((setup : Setup) (frames : ℕ → PortState) (state : DeskState) → AreAtRest setup counted-old.windows frames state → new.windows.picture.pixels ≡ picture setup state.scene.rows state.scene.layers)
+    → (new.windows.picture.width ≡ counted-old.windows.picture.width) × (new.windows.picture.height ≡ counted-old.windows.picture.height) × (new.windows.picture.background ≡ counted-old.windows.picture.background) × (new.windows.picture.outputs ≡ counted-old.windows.picture.outputs)
+    → new.windows.picture.painted ≡ counted (counted-old.windows.picture.painted + shown_area counted-old.windows.picture.outputs)
+    → ((setup : Setup) (frames : ℕ → PortState) (state : DeskState) → AreAtRest setup counted-old.windows frames state → new.windows.picture.pixels ≡ plane setup state.scene.rows state.scene.layers)
     → TakesItem takes out out item piece old new frames frames
 snap-item takes out item piece old counted-old new frames is one same sides painted pixels =
     let P : Item → Type 0 = λ i. TakesItem takes out out i piece old new frames frames in
@@ -134,8 +134,8 @@ snap-item takes out item piece old counted-old new frames is one same sides pain
       drawn = λ snap setup state stands. pixels setup frames (count_item state) (after setup state stands).windows;
       painted = λ setup state stands.
           let n = (after setup state stands).windows.with_rest.numbers in
-          painted ∙ ap (λ p. counted (p + counted-old.windows.picture.width * counted-old.windows.picture.height)) (ap (λ (d : DeskView). d.windows.picture.painted) one)
-          ∙ ap (λ w. counted (old.windows.picture.painted + w * counted-old.windows.picture.height)) n.width ∙ ap (λ h. counted (old.windows.picture.painted + setup.width * h)) n.height;
+          painted ∙ ap (λ p. counted (p + shown_area counted-old.windows.picture.outputs)) (ap (λ (d : DeskView). d.windows.picture.painted) one)
+          ∙ ap (λ os. counted (old.windows.picture.painted + shown_area os)) n.outputs;
       others = λ g other mine apart. absurd (cc);
       sizes = record {
         guests = ap of_windows.guests_of drawn ∙ ap guests_of one;

@@ -7,7 +7,6 @@ use Rattle.desk_laws.specs.Edges.{EdgesStayApart}
 use Rattle.desk_laws.specs.Endings.{is_item_of}
 use Rattle.desk_laws.specs.Frames.{PortState}
 use Rattle.desk_laws.specs.Override.{KeepsLimits}
-use Rattle.desk_laws.specs.Picture.{picture}
 use Rattle.desk_laws.specs.Scene.{Post}
 use Rattle.desk_laws.specs.Sizes.{sizes_of}
 use Rattle.desk_laws.specs.State.{DeskState}
@@ -17,7 +16,7 @@ use Rattle.frame_pool.specs.Ports.{KeepsExtent}
 use Rattle.desk_core.specs.DeskView.{DeskView, guests_of, pages_of, picture_of, session_in}
 use Rattle.desk_core.specs.DeskPosts.{guest_posts}
 use Rattle.desk_core.specs.DeskStands.{IsAtRest, Stands}
-use Rattle.desk_core.specs.Painting.{painted_after}
+use Rattle.desk_core.specs.Painting.{painted_after, plane}
 
 -- a guest's session, with its windows and what was read of them, and its frames are as before
 pub record LeavesGuest (guest : ℕ) (old new : DeskView) (port port' : ℕ → PortState) : Type 0 where
@@ -29,18 +28,18 @@ pub record LeavesGuest (guest : ℕ) (old new : DeskView) (port port' : ℕ → 
 pub record TakesItem {O : Type 0} (takes : O → Post → O → Type 0) (out out' : O) (item : Item) (piece : List ℕ) (old new : DeskView) (frames frames' : ℕ → PortState) : Type 0 where
   pub rests : (setup : Setup) (state : DeskState) → Stands setup old frames state → IsAtRest setup new frames' (step setup item piece state).desk
   pub posts : (setup : Setup) (state : DeskState) → Stands setup old frames state → Leads takes out (guest_posts (step setup item piece state).posts) out'
-  pub drawn : item ≡ items.Snap → (setup : Setup) (state : DeskState) → Stands setup old frames state → (picture_of new).pixels ≡ picture setup state.scene.rows state.scene.layers
+  pub drawn : item ≡ items.Snap → (setup : Setup) (state : DeskState) → Stands setup old frames state → (picture_of new).pixels ≡ plane setup state.scene.rows state.scene.layers
   pub painted : (setup : Setup) (state : DeskState) → Stands setup old frames state → (picture_of new).painted ≡ painted_after setup item (picture_of old).painted
   pub others : (guest other : ℕ) → is_item_of guest item ≡ true → (other ≡ guest → ⊥) → LeavesGuest other old new frames frames'
   pub sizes : KeepsExtent guests_of pages_of old new
 
 -- what a step by an item does to a desk that stood for this state: the desk stands for the state after it, the outlet
--- took what it tells guests, and at Snap the picture is the composition of all windows and counts as drawn whole; no
+-- took what it tells guests, and at Snap the picture is the composition of all windows in the outputs, which count as drawn whole; no
 -- two contents in that composition touch, and the override-redirect windows keep their limits
 pub record Steps {O : Type 0} (takes : O → Post → O → Type 0) (out out' : O) (setup : Setup) (item : Item) (piece : List ℕ) (state : DeskState) (old new : DeskView) (frames' : ℕ → PortState) : Type 0 where
   pub stands : Stands setup new frames' (step setup item piece state).desk
   pub posts : Leads takes out (guest_posts (step setup item piece state).posts) out'
-  pub drawn : item ≡ items.Snap → (picture_of new).pixels ≡ picture setup state.scene.rows state.scene.layers
+  pub drawn : item ≡ items.Snap → (picture_of new).pixels ≡ plane setup state.scene.rows state.scene.layers
   pub painted : (picture_of new).painted ≡ painted_after setup item (picture_of old).painted
   pub edges : EdgesStayApart setup.border state.scene.rows state.scene.layers
   pub limits : KeepsLimits (sizes_of setup) (step setup item piece state).desk.scene.rows

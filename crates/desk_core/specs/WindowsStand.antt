@@ -25,6 +25,7 @@ pub record HasNumbers (setup : Setup) (desk : WindowsView) : Type 0 where
   pub width : desk.picture.width ≡ setup.width
   pub height : desk.picture.height ≡ setup.height
   pub background : desk.picture.background ≡ setup.background.0
+  pub outputs : desk.picture.outputs ≡ setup.outputs
   pub border : desk.border ≡ setup.border
   pub labels : (guest : ℕ) → guest < length setup.guests → slice_get desk.labels guest ≡ Some (record { 0 = label_of setup guest })
   pub wide : 1 ≤ setup.border

@@ -1,5 +1,5 @@
 // The desktop: the windows of its guests, and what the user does to them.
-ghost use Rattle.std.specs.Prelude.{◌≡◌, ℕ, ◌<◌, ◌≤◌, ◌+◌, ◌*◌, List, length, IfOk, IsTrue, false, true};
+ghost use Rattle.std.specs.Prelude.{◌≡◌, ℕ, ◌<◌, ◌≤◌, ◌+◌, List, length, IfOk, IsTrue, false, true};
 ghost use Rattle.desk_laws.specs.declared.setup.Setup.{Setup};
 ghost use Rattle.desk_laws.specs.Rules.{first_broken};
 ghost use Rattle.desk_laws.specs.Items.{FitsItem, IsChange};
@@ -7,9 +7,10 @@ ghost use Rattle.desk_laws.specs.Frames.{PortState, counted};
 ghost use Rattle.desk_laws.specs.Endings.{is_item_of};
 ghost use Rattle.desk_laws.specs.Scene.{Input};
 ghost use Rattle.desk_laws.specs.State.{DeskState, opening};
-ghost use Rattle.desk_laws.specs.Picture.{picture};
 ghost use Rattle.desk_laws.specs.Steps.{take_bytes, take_store, end_session};
 ghost use Rattle.frame_pool.specs.Ports.{AreZeros, ChangesFrames, HasExtent, KeepsExtent};
+ghost use Rattle.compositor.specs.PictureView.{shown_area};
+ghost use Rattle.desk_core.specs.Painting.{plane};
 ghost use Rattle.desk_core.specs.DeskView.{guests_of, pages_of, picture_of, session_in};
 ghost use Rattle.desk_core.specs.DeskStands.{IsAtRest, Stands, StepsTo, counted_in, stepped_of, summary_of};
 ghost use Rattle.desk_core.specs.EventItems.{TakesOn};
@@ -189,12 +190,12 @@ impl Desk {
         self.windows.count_item();
     }
 
-    // Draws the picture anew, each pixel once.
+    // Draws the outputs anew, each pixel once.
     fn draw(&mut self)
         ensures desk { self.new ≡ record self.old { windows = record self.old.windows { picture = picture_of self.new } } }
-        ensures sides { ((picture_of self.new).width ≡ (picture_of self.old).width) × ((picture_of self.new).height ≡ (picture_of self.old).height) × ((picture_of self.new).background ≡ (picture_of self.old).background) }
-        ensures painted { (picture_of self.new).painted ≡ counted ((picture_of self.old).painted + (picture_of self.old).width * (picture_of self.old).height) }
-        ensures pixels { (setup : Setup) (frames : ℕ → PortState) (state : DeskState) → AreAtRest setup self.old.windows frames state → (picture_of self.new).pixels ≡ picture setup state.scene.rows state.scene.layers }
+        ensures sides { ((picture_of self.new).width ≡ (picture_of self.old).width) × ((picture_of self.new).height ≡ (picture_of self.old).height) × ((picture_of self.new).background ≡ (picture_of self.old).background) × ((picture_of self.new).outputs ≡ (picture_of self.old).outputs) }
+        ensures painted { (picture_of self.new).painted ≡ counted ((picture_of self.old).painted + shown_area (picture_of self.old).outputs) }
+        ensures pixels { (setup : Setup) (frames : ℕ → PortState) (state : DeskState) → AreAtRest setup self.old.windows frames state → (picture_of self.new).pixels ≡ plane setup state.scene.rows state.scene.layers }
     {
         self.windows.draw();
     }
@@ -265,7 +266,7 @@ impl Desk {
     ///
     /// An item of one guest leaves the sessions, the windows and the frames of all others as they are.
     /// In each picture no content of one window touches that of another, and override-redirect windows
-    /// lie on the desktop with their borders and take no more than their percent of it.
+    /// lie in an output with their borders, and take no more than their percent of the largest one.
     pub fn step<P: FramePort, O: Outlet>(
         &mut self,
         item: &Item,
@@ -284,7 +285,8 @@ impl Desk {
         self.take_item(item, piece, port, out)
     }
 
-    /// The picture, as it was drawn last: in the background colour alone where no Snap came yet.
+    /// The picture of the plane, as it was drawn last: 0 in each pixel where no Snap came yet, and in the
+    /// pixels of no output.
     pub fn picture(&self) -> &Picture
         ensures { result.now ≡ picture_of self.now }
     {

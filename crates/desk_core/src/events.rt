@@ -1,5 +1,7 @@
 // What the user does: it is routed to the windows, and the rows are told of the focus and of the hover.
-ghost use Rattle.std.specs.Prelude.{◌≡◌, ◌≤◌, IsTrue, false, length};
+ghost use Rattle.std.specs.Prelude.{◌≡◌, ◌≤◌, length};
+ghost use Rattle.std.specs.List.{All};
+ghost use Rattle.compositor.specs.PictureView.{LiesIn};
 ghost use Rattle.desk_laws.specs.declared.setup.Setup.{Setup};
 ghost use Rattle.desk_laws.specs.Events.{route};
 ghost use Rattle.desk_laws.specs.Scene.{Scene, and_then, ignored, perform};
@@ -11,37 +13,15 @@ ghost use Rattle.desk_core.specs.EventSteps.{Performs, EventTakes};
 
 use crate::deliveries::Queue;
 use crate::grants::carry_out;
+use crate::outputs::stays_on;
 use crate::places::SessionPlaces;
 use crate::settle::settle;
 use desk_laws::Item;
 use guest_session::Session;
-use gui_num::{Point, Rect, has};
+use gui_num::Rect;
 use input_router::Router;
 use io_ports::Outlet;
 use stacking::Stacking;
-
-// Whether the pixel of a Move is on a desktop of this width and height in pixels; `true` for all other
-// items.
-fn stays_on(item: &Item, width: u32, height: u32) -> bool
-    requires width { width ≤ 8192 }
-    requires height { height ≤ 8192 }
-    ensures pixel { IsTrue result → HasPixel item.now }
-    ensures on { IsTrue result → (setup : Setup) → setup.width ≡ width → setup.height ≡ height → StaysOn setup item.now }
-    ensures off { result ≡ false → (setup : Setup) (scene : Scene) → setup.width ≡ width → setup.height ≡ height → route setup item.now scene ≡ ignored scene }
-{
-    match *item {
-        Item::Move { x, y, .. } => {
-            let desktop = Rect {
-                x: 0,
-                y: 0,
-                w: width,
-                h: height,
-            };
-            has(desktop, Point { x, y })
-        }
-        _ => true,
-    }
-}
 
 // Routes an event, and carries out what it hands on to the windows. Answers whether focus and hover are
 // still those last told.
@@ -67,10 +47,10 @@ fn perform_event<O: Outlet>(
     taken.settled
 }
 
-/// Takes an event of the user, on a desktop of this width and height and with borders of so many pixels:
-/// it is routed to the windows, what it hands on to them is carried out, and the rows are told of the
-/// focus and of the hover where they are others than before. A Move to a pixel outside the desktop does
-/// nothing, and neither does an item that isn't an event of the user. No memory is taken.
+/// Takes an event of the user, on a desktop with these outputs and with borders of so many pixels: it is
+/// routed to the windows, what it hands on to them is carried out, and the rows are told of the focus and
+/// of the hover where they are others than before. A Move to a pixel in no output does nothing, and
+/// neither does an item that isn't an event of the user. No memory is taken.
 ///
 /// What comes of it is what the definitions give for an event on the scene that these sessions, this
 /// stack and this router are those of, where focus and hover were told as they are there.
@@ -79,21 +59,19 @@ pub(crate) fn take_event<O: Outlet>(
     sessions: &mut [Session],
     stack: &mut Stacking,
     border: u32,
-    width: u32,
-    height: u32,
+    outputs: &[Rect],
     item: &Item,
     out: &mut O,
 )
     requires border { border ≤ 16 }
-    requires width { width ≤ 8192 }
-    requires height { height ≤ 8192 }
+    requires outputs { All (LiesIn 8192 8192) outputs.now }
     ensures rows { stack.new.rows ≡ stack.old.rows }
     ensures count { length sessions.new ≡ length sessions.old }
-    ensures takes { (setup : Setup) (scene : Scene) → setup.border ≡ border → setup.width ≡ width → setup.height ≡ height
+    ensures takes { (setup : Setup) (scene : Scene) → setup.border ≡ border → setup.outputs ≡ outputs.now
         → IsScene sessions.old stack.old.layers router.old scene → IsSettled (sizes_of setup) scene
         → EventTakes O.takes out.old out.new sessions.old sessions.new stack.new.layers router.new (sizes_of setup) (and_then (perform (route setup item.now scene) scene) (settled_after (sizes_of setup))) }
 {
-    if !stays_on(item, width, height) {
+    if !stays_on(item, outputs) {
         return;
     }
     let settled = perform_event(router, sessions, stack, border, item, out);

@@ -9,6 +9,7 @@ mod deliveries;
 mod desk;
 mod events;
 mod grants;
+mod outputs;
 mod panes;
 mod places;
 mod settle;

@@ -3,9 +3,9 @@
 ghost use Rattle.std.specs.Prelude.{◌≡◌, ◌≤◌, ◌+◌, length, IfOk};
 
 use super::*;
-use desk_laws::{GuestSetup, Guests, Item, Name, Setup};
+use desk_laws::{GuestSetup, Guests, Item, Name, Outputs, Pairs, Setup};
 use frame_pool::TapePort;
-use gui_num::{Colour, NoMemory};
+use gui_num::{Colour, NoMemory, Rect};
 use io_ports::PostList;
 use std::alloc::Global;
 use std::test::Fail;
@@ -45,6 +45,13 @@ fn red_and_green(alloc: Global) -> Result<Guests, NoMemory>
     with(red, guest(0x00ff00, b"green"))
 }
 
+// The one output of a plane of this width and height.
+fn whole_plane(alloc: Global, w: u32, h: u32) -> Result<Outputs, NoMemory> {
+    let mut outputs = Outputs::new(alloc);
+    outputs.push(Rect { x: 0, y: 0, w, h })?;
+    Ok(outputs)
+}
+
 // A black desktop of 8 by 6 pixels with borders of one pixel.
 fn setup(alloc: Global) -> Result<Setup, Fail>
     ensures { IfOk result (λ s. length s.guests ≡ 2) }
@@ -59,6 +66,9 @@ fn setup(alloc: Global) -> Result<Setup, Fail>
         percent: 90,
         background: Colour(0),
         guests,
+        outputs: whole_plane(alloc, 8, 6)?,
+        clip: 1,
+        denied: Pairs::new(alloc),
     })
 }
 

@@ -1,16 +1,17 @@
 // The windows of all guests: their sessions, the stack of the mapped ones, the counts and the picture.
-ghost use Rattle.std.specs.Prelude.{◌≡◌, ℕ, ◌<◌, ◌≤◌, ◌+◌, ◌*◌, List, length, map, slice_index_or, IfOk, false, true, if◌then◌else◌};
+ghost use Rattle.std.specs.Prelude.{◌≡◌, ℕ, ◌<◌, ◌≤◌, ◌+◌, List, length, map, slice_index_or, IfOk, false, true, if◌then◌else◌};
 ghost use Rattle.desk_laws.specs.declared.setup.Setup.{Setup};
 ghost use Rattle.desk_laws.specs.Rules.{first_broken};
 ghost use Rattle.desk_laws.specs.Items.{IsChange};
 ghost use Rattle.desk_laws.specs.Frames.{PortState, counted};
-ghost use Rattle.desk_laws.specs.Picture.{picture};
 ghost use Rattle.desk_laws.specs.Scene.{Input};
 ghost use Rattle.desk_laws.specs.Settle.{IsSettled};
 ghost use Rattle.desk_laws.specs.Sizes.{sizes_of};
 ghost use Rattle.desk_laws.specs.State.{DeskState, opening};
 ghost use Rattle.desk_laws.specs.Steps.{event, take_store, end_session};
 ghost use Rattle.frame_pool.specs.Ports.{AreZeros, ChangesFrames, HasExtent};
+ghost use Rattle.compositor.specs.PictureView.{shown_area};
+ghost use Rattle.desk_core.specs.Painting.{plane};
 ghost use Rattle.desk_core.specs.EventSteps.{EventsTo};
 ghost use Rattle.desk_core.specs.Pieces.{Drained, PushesPiece, held_by};
 ghost use Rattle.desk_core.specs.Scenes.{KeepSessions};
@@ -148,6 +149,21 @@ fn open_sessions(alloc: Global, setup: &Setup) -> Result<Vec<Session>, NoMemory>
     Ok(sessions)
 }
 
+// The picture of a setup's outputs, of which nothing is drawn yet. `NoMemory` where there is none for it.
+fn open_picture(alloc: Global, setup: &Setup) -> Result<Picture, NoMemory>
+    requires { first_broken setup.now ≡ None }
+    ensures numbers { IfOk result (λ p. (p.width ≡ setup.now.width) × (p.height ≡ setup.now.height) × (p.background ≡ setup.now.background.0) × (p.outputs ≡ setup.now.outputs)) }
+    ensures fresh { IfOk result (λ p. p.painted ≡ 0) }
+{
+    Picture::new(
+        alloc,
+        setup.width,
+        setup.height,
+        setup.background,
+        setup.outputs.items(),
+    )
+}
+
 impl Windows {
     /// The windows of a setup that keeps its rules, before any item. `NoMemory` where there is none
     /// for the sessions, the stack and the picture; later nothing takes memory.
@@ -169,7 +185,7 @@ impl Windows {
             messages: 0,
             glances: 0,
             shown: Vec::with_capacity(alloc, windows as usize)?,
-            picture: Picture::new(alloc, setup.width, setup.height, setup.background)?,
+            picture: open_picture(alloc, setup)?,
         })
     }
 
@@ -256,8 +272,8 @@ impl Windows {
     }
 
     /// Takes an event of the user: it is routed to the windows, and focus and hover are told where they
-    /// are others than those last told. A Move to a pixel outside the desktop does nothing, and neither
-    /// does an item that isn't an event of the user.
+    /// are others than those last told. A Move to a pixel in no output does nothing, and neither does
+    /// an item that isn't an event of the user.
     pub(crate) fn event<O: Outlet>(&mut self, router: &mut Router, item: &Item, out: &mut O)
         requires { AreSeated self.old router.old }
         ensures rest { self.new ≡ record self.old { sessions = self.new.sessions; layers = self.new.layers } }
@@ -265,14 +281,12 @@ impl Windows {
         ensures event { (setup : Setup) (held : ℕ → List ℕ) (frames : ℕ → PortState) (state : DeskState) → StandsWith setup held self.old frames state → HasSeat setup router.old state
             → EventsTo O.takes out.old out.new setup held self.new frames router.new (event setup item.now state) }
     {
-        let (width, height) = (self.picture.width(), self.picture.height());
         take_event(
             router,
             &mut self.sessions,
             &mut self.stack,
             self.border,
-            width,
-            height,
+            self.picture.outputs(),
             item,
             out,
         );
@@ -306,12 +320,12 @@ impl Windows {
         self.items = self.items.saturating_add(1);
     }
 
-    /// Draws the picture anew, each pixel once.
+    /// Draws the outputs anew, each pixel once.
     pub(crate) fn draw(&mut self)
         ensures desk { self.new ≡ record self.old { picture = self.new.picture } }
-        ensures sides { (self.new.picture.width ≡ self.old.picture.width) × (self.new.picture.height ≡ self.old.picture.height) × (self.new.picture.background ≡ self.old.picture.background) }
-        ensures painted { self.new.picture.painted ≡ counted (self.old.picture.painted + self.old.picture.width * self.old.picture.height) }
-        ensures pixels { (setup : Setup) (frames : ℕ → PortState) (state : DeskState) → AreAtRest setup self.old frames state → self.new.picture.pixels ≡ picture setup state.scene.rows state.scene.layers }
+        ensures sides { (self.new.picture.width ≡ self.old.picture.width) × (self.new.picture.height ≡ self.old.picture.height) × (self.new.picture.background ≡ self.old.picture.background) × (self.new.picture.outputs ≡ self.old.picture.outputs) }
+        ensures painted { self.new.picture.painted ≡ counted (self.old.picture.painted + shown_area self.old.picture.outputs) }
+        ensures pixels { (setup : Setup) (frames : ℕ → PortState) (state : DeskState) → AreAtRest setup self.old frames state → self.new.picture.pixels ≡ plane setup state.scene.rows state.scene.layers }
     {
         show_stack(
             &mut self.shown,
@@ -326,7 +340,7 @@ impl Windows {
         });
     }
 
-    /// The picture, as it was drawn last.
+    /// The picture of the plane, as it was drawn last.
     pub(crate) fn picture(&self) -> &Picture
         ensures { result.now ≡ picture_of self.now }
     {

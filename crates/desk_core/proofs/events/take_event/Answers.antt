@@ -4,19 +4,19 @@ use Rattle.desk_core.proofs.EventTurns.{event-ignored, event-silent, event-taken
 use Rattle.desk_core.proofs.events.take_event.Goals as goal
 
 pub returns-then-not-stays_on-clause-takes : goal.returns-then-not-stays_on-clause-takes
-returns-then-not-stays_on-clause-takes g c = λ setup scene border width height is still.
+returns-then-not-stays_on-clause-takes g c = λ setup scene border shown is still.
     event-ignored g.O.Outlet.takes c.args.out.now c.args.sessions.now c.args.stack.now.layers c.args.router.now setup c.args.item.now scene
-    (c.stays_on.ensures.off c.if-not-stays_on.true setup scene width height) is still
+    (c.stays_on.ensures.off c.if-not-stays_on.true setup scene shown) is still
 
 pub returns-then-not-settled-clause-takes : goal.returns-then-not-settled-clause-takes
-returns-then-not-settled-clause-takes g c = λ setup scene border width height is still.
-    let performed = c.perform_event-settled.ensures.performs setup scene border (c.if-not-stays_on.ensures.on refl setup width height) is still in
+returns-then-not-settled-clause-takes g c = λ setup scene border shown is still.
+    let performed = c.perform_event-settled.ensures.performs setup scene border (c.if-not-stays_on.ensures.on refl setup shown) is still in
     event-taken g.O.Outlet.takes c.args.out.now c.perform_event-settled.new.out c.settle.new.out c.args.sessions.now c.perform_event-settled.new.sessions c.settle.new.sessions
     c.perform_event-settled.new.stack.layers c.perform_event-settled.new.router c.settle.new.router c.perform_event-settled.result (sizes_of setup) _ performed
     (c.settle.ensures (sizes_of setup) _ border performed.scene)
 
 pub returns-else-not-settled-clause-takes : goal.returns-else-not-settled-clause-takes
-returns-else-not-settled-clause-takes g c = λ setup scene border width height is still.
-    let performed = c.perform_event-settled.ensures.performs setup scene border (c.if-not-stays_on.ensures.on refl setup width height) is still in
+returns-else-not-settled-clause-takes g c = λ setup scene border shown is still.
+    let performed = c.perform_event-settled.ensures.performs setup scene border (c.if-not-stays_on.ensures.on refl setup shown) is still in
     event-silent g.O.Outlet.takes c.args.out.now c.perform_event-settled.new.out c.args.sessions.now c.perform_event-settled.new.sessions
     c.perform_event-settled.new.stack.layers c.perform_event-settled.new.router c.perform_event-settled.result (sizes_of setup) _ performed c.if-not-settled.false

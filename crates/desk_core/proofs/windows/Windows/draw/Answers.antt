@@ -1,11 +1,11 @@
 use Rattle.std.proofs.Common.{◌≡◌, ◌∙◌, ℕ, List, length, map, ap, subst, arith}
 use Rattle.gui_num.specs.declared.Colour.{Colour}
-use Rattle.compositor.specs.Composed.{all_pixels, composed}
+use Rattle.compositor.specs.Composed.{all_pixels, shown_at}
 use Rattle.desk_laws.specs.declared.setup.Setup.{Setup}
 use Rattle.desk_laws.specs.Frames.{PortState}
-use Rattle.desk_laws.specs.Picture.{picture}
 use Rattle.desk_laws.specs.State.{DeskState}
 use Rattle.guest_session.specs.SessionView.{SessionView}
+use Rattle.desk_core.specs.Painting.{plane}
 use Rattle.desk_core.specs.WindowsStand.{AreAtRest, rests_of}
 use Rattle.desk_core.specs.WindowsView.{WindowsView}
 use Rattle.desk_core.specs.Panes.{pane_of, shown_of}
@@ -30,8 +30,8 @@ returns-clause-pixels c =
     let i = c.self.inside in
     let w = i.picture.width in
     let h = i.picture.height in
-    let drawn : List SessionView → List ShownView → List ℕ = λ ss vs. map (composed i.picture.background (map (pane_of ss) vs)) (all_pixels w h) in
-    let P : WindowsView → Type 0 = λ d. (setup : Setup) (frames : ℕ → PortState) (state : DeskState) → AreAtRest setup d frames state → c.paint.new.self.pixels ≡ picture setup state.scene.rows state.scene.layers in
+    let drawn : List SessionView → List ShownView → List ℕ = λ ss vs. map (shown_at i.picture.background (map (pane_of ss) vs) i.picture.outputs) (all_pixels w h) in
+    let P : WindowsView → Type 0 = λ d. (setup : Setup) (frames : ℕ → PortState) (state : DeskState) → AreAtRest setup d frames state → c.paint.new.self.pixels ≡ plane setup state.scene.rows state.scene.layers in
     subst P c.self.view_is (λ setup frames state stands.
     desk-painted setup (rests_of state) _ frames state stands.with_rest c.paint.new.self.pixels
     (c.paint.ensures.pixels

@@ -20,7 +20,7 @@ invariant_of-self g c =
     let new = c.take_event.new in
     let desk : WindowsView = record { border = i.border; labels = i.labels.items; sessions = i.sessions.items; layers = i.stack.layers; items = i.items; messages = i.messages; glances = i.glances; picture = i.picture } in
     let taken = event-seen g.O.Outlet.takes c.args.out.now new.out c.args.item.now desk c.deref_mut.result.now new.sessions new.stack.layers c.args.router.now new.router
-    c.width-width.result c.height-height.result c.deref_mut.ensures.value c.width-width.ensures.is c.height-height.ensures.is c.take_event.ensures.takes in
+    c.outputs.result.now c.deref_mut.ensures.value c.outputs.ensures.is c.take_event.ensures.takes in
     let seated : AreSeated desk c.args.router.now = subst (λ (w : WindowsView). AreSeated w c.args.router.now) (sym c.self.view_is) c.requires in
     let kept = event-room g.O.Outlet.takes c.args.out.now new.out c.args.item.now desk new.sessions new.stack.layers c.args.router.now new.router taken
     i.stack.rows new.stack.rows c.self.invariant.0 c.take_event.ensures.rows seated in
@@ -34,7 +34,7 @@ returns-clause-kept g c =
     let new = c.take_event.new in
     let desk : WindowsView = record { border = i.border; labels = i.labels.items; sessions = i.sessions.items; layers = i.stack.layers; items = i.items; messages = i.messages; glances = i.glances; picture = i.picture } in
     let taken = event-seen g.O.Outlet.takes c.args.out.now new.out c.args.item.now desk c.deref_mut.result.now new.sessions new.stack.layers c.args.router.now new.router
-    c.width-width.result c.height-height.result c.deref_mut.ensures.value c.width-width.ensures.is c.height-height.ensures.is c.take_event.ensures.takes in
+    c.outputs.result.now c.deref_mut.ensures.value c.outputs.ensures.is c.take_event.ensures.takes in
     let seated : AreSeated desk c.args.router.now = subst (λ (w : WindowsView). AreSeated w c.args.router.now) (sym c.self.view_is) c.requires in
     let kept = event-sessions g.O.Outlet.takes c.args.out.now new.out c.args.item.now desk new.sessions new.stack.layers c.args.router.now new.router taken seated in
     let back = written-back i.sessions.len new.sessions (drop (length new.sessions) i.sessions.items) (c.take_event.ensures.count ∙ c.deref_mut.ensures.len) in
@@ -47,7 +47,7 @@ returns-clause-event g c =
     let new = c.take_event.new in
     let desk : WindowsView = record { border = i.border; labels = i.labels.items; sessions = i.sessions.items; layers = i.stack.layers; items = i.items; messages = i.messages; glances = i.glances; picture = i.picture } in
     let taken = event-seen g.O.Outlet.takes c.args.out.now new.out c.args.item.now desk c.deref_mut.result.now new.sessions new.stack.layers c.args.router.now new.router
-    c.width-width.result c.height-height.result c.deref_mut.ensures.value c.width-width.ensures.is c.height-height.ensures.is c.take_event.ensures.takes in
+    c.outputs.result.now c.deref_mut.ensures.value c.outputs.ensures.is c.take_event.ensures.takes in
     let stands = event-stands g.O.Outlet.takes c.args.out.now new.out c.args.item.now desk new.sessions new.stack.layers c.args.router.now new.router taken in
     let P : List SessionView → Type 0 = λ ss. (setup : Setup) (held : ℕ → List ℕ) (frames : ℕ → PortState) (state : DeskState) → StandsWith setup held desk frames state → HasSeat setup c.args.router.now state
     → EventsTo g.O.Outlet.takes c.args.out.now new.out setup held (record { border = i.border; labels = i.labels.items; sessions = ss; layers = new.stack.layers; items = i.items; messages = i.messages; glances = i.glances; picture = i.picture }) frames new.router (event setup c.args.item.now state) in

@@ -4,7 +4,6 @@ use Rattle.desk_laws.specs.declared.setup.GuestSetup.{GuestSetup}
 use Rattle.desk_laws.specs.Frames.{zeros}
 use Rattle.desk_laws.specs.State.{opening}
 use Rattle.desk_laws.proofs.RuleLemmas.{HasRanges, ranges-kept}
-use Rattle.compositor.specs.PictureView.{PictureView}
 use Rattle.stacking.specs.Stacked.{Stacked}
 use Rattle.guest_session.specs.SessionView.{SessionView}
 use Rattle.desk_core.specs.WindowsView.{WindowsView}
@@ -12,7 +11,7 @@ use Rattle.desk_core.proofs.OpeningStands.{IsOpened, border-wide, label-at, open
 use Rattle.desk_core.proofs.windows.Windows.open.Goals as goal
 
 -- the desk that was made
-abbrev made_desk : goal.In_ok-new-2 → WindowsView
+abbrev made_desk : goal.In_ok-open_picture → WindowsView
 made_desk c = record {
   border = c.args.setup.now.border;
   labels = c.in_ok-labels_of.field-0.items;
@@ -21,20 +20,21 @@ made_desk c = record {
   items = 0;
   messages = 0;
   glances = 0;
-  picture = c.in_ok-new-2.field-0;
+  picture = c.in_ok-open_picture.field-0;
 }
 
 -- it has fresh sessions, and nothing on it
-made : (c : goal.In_ok-new-2) → IsOpened c.args.setup.now (made_desk c)
+made : (c : goal.In_ok-open_picture) → IsOpened c.args.setup.now (made_desk c)
 made c =
     let setup = c.args.setup.now in
     let ranges : HasRanges setup = ranges-kept setup c.requires in
     let labels : c.in_ok-labels_of.field-0.items ≡ map (λ g. g.colour) setup.guests = c.in_ok-labels_of.ensures ∙ ap (λ (gs : List GuestSetup). map (λ g. g.colour) gs) c.items-guests.ensures in
     record {
       numbers = record {
-        width = ap (λ (p : PictureView). p.width) c.in_ok-new-2.ensures;
-        height = ap (λ (p : PictureView). p.height) c.in_ok-new-2.ensures;
-        background = ap (λ (p : PictureView). p.background) c.in_ok-new-2.ensures;
+        width = c.in_ok-open_picture.ensures.numbers.0;
+        height = c.in_ok-open_picture.ensures.numbers.1;
+        background = c.in_ok-open_picture.ensures.numbers.2;
+        outputs = c.in_ok-open_picture.ensures.numbers.3;
         border = refl;
         labels = λ guest below. ap (λ ls. slice_get ls guest) labels ∙ label-at setup.guests guest below;
         wide = border-wide setup c.requires;
