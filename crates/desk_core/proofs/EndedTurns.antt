@@ -19,6 +19,7 @@ use Rattle.desk_laws.proofs.Cutting.{front_by-append, front_by-whole_header, hea
 use Rattle.desk_laws.proofs.CuttingLemmas.{cut-takes, cut-faults}
 use Rattle.desk_laws.proofs.UnitLemmas.{taken-by, units-left}
 use Rattle.guest_session.specs.declared.turn.Turn.TheVariants as turns
+use Rattle.clipboard_gate.specs.Kept.{GateView}
 use Rattle.guest_session.specs.SessionView.{SessionView, IsEnded}
 use Rattle.guest_session.specs.Clips.{is_clip}
 use Rattle.guest_session.specs.Turns.{Turns, TakesUnit, Decides, window_of}
@@ -28,23 +29,23 @@ use Rattle.desk_core.specs.declared.windows.Told.TheVariants as answers
 use Rattle.desk_core.specs.Settling.{settled_after}
 use Rattle.desk_core.specs.Telling.{TookTold}
 use Rattle.desk_core.proofs.StandLemmas.{moved}
-use Rattle.desk_core.proofs.EndStands.{ended_told, ends-stands}
+use Rattle.desk_core.proofs.EndStands.{Forgets, ended_told, ends-stands}
 use Rattle.desk_core.proofs.LeaveLemmas.{ends-leaves}
 use Rattle.desk_core.proofs.UnitTurns.{verdict-same}
 
 -- what comes of a fault, or of a unit that ends the session: whatever bytes follow, the session has ended
-pub ended-took : {O : Type 0} (takes : O → Post → O → Type 0) (out out' : O) (setup : Setup) (guest : ℕ) (held : List ℕ) (part : PartView) (new : SessionView) (port port' : PortState) (state : DeskState) (unit : StreamUnit) (cause : Cause)
+pub ended-took : {O : Type 0} (takes : O → Post → O → Type 0) (out out' : O) (setup : Setup) (guest : ℕ) (held : List ℕ) (part : PartView) (new : SessionView) (gate : GateView) (port port' : PortState) (state : DeskState) (unit : StreamUnit) (cause : Cause)
     → PartStands setup guest held part port state → part.session.ended ≡ None
     → ((left : List ℕ) → (others : List StreamUnit) × ((cut part.session.stream.greeted (held ++ left)).units ≡ unit ∷ others))
     → verdict part.session.sizes part.session.guest part.session.minor part.session.rows unit ≡ Ends cause
-    → IsEnded part.session cause new → port' ≡ port → takes out (Ended guest cause) out'
-    → TookTold takes out out' answers.Ended setup guest held part (moved new (without_guest guest part.layers) part.messages part.glances) port' state
-ended-took takes out out' setup guest held part new port port' state unit cause stands going cuts v_is over unread told =
-    let last = moved new (without_guest guest part.layers) part.messages part.glances in
+    → IsEnded part.session cause new → Forgets guest part.gate gate → port' ≡ port → takes out (Ended guest cause) out'
+    → TookTold takes out out' answers.Ended setup guest held part (moved new (without_guest guest part.layers) gate part.messages part.glances) port' state
+ended-took takes out out' setup guest held part new gate port port' state unit cause stands going cuts v_is over forgotten unread told =
+    let last = moved new (without_guest guest part.layers) gate part.messages part.glances in
     let e = ended_told guest (Took unit) cause state in
     let o = settled_after setup e in
     let taken : take_unit setup guest unit state ≡ o = taken-by setup guest unit state (Ends cause) (stands.ended ∙ going) (verdict-same setup guest held part port state unit stands going ∙ v_is) in
-    let stood : PartStands setup guest [] last port' e.desk = ends-stands setup guest held [] part new port port' state (Took unit) cause stands over unread in
+    let stood : PartStands setup guest [] last port' e.desk = ends-stands setup guest held [] part new gate port port' state (Took unit) cause stands over forgotten unread in
     let gone : (session_of guest o.desk).ended ≡ Some cause = stood.ended ∙ over.ended in
     record {
       behind = [];
@@ -99,38 +100,38 @@ not-ended cause false e = cc
 told-cause : (cause cause' : Cause) → turns.Ended cause ≡ turns.Ended cause' → cause ≡ cause'
 told-cause cause cause' e = cc
 
-pub turn-ended : {O : Type 0} (takes : O → Post → O → Type 0) (out mid out' : O) (setup : Setup) (guest : ℕ) (held : List ℕ) (part : PartView) (new : SessionView) (cause : Cause) (port port' : PortState) (state : DeskState) (f : Front)
-    → PartStands setup guest held part port state → part.session.ended ≡ None → front part.session.stream.greeted held ≡ f
+pub turn-ended : {O : Type 0} (takes : O → Post → O → Type 0) (out mid out' : O) (setup : Setup) (guest : ℕ) (held : List ℕ) (part : PartView) (new : SessionView) (gate : GateView) (cause : Cause) (port port' : PortState) (state : DeskState) (f : Front)
+    → PartStands setup guest held part port state → part.session.ended ≡ None → Forgets guest part.gate gate → front part.session.stream.greeted held ≡ f
     → Turns takes out mid port port' part.session new (turns.Ended cause) f → takes mid (Ended guest cause) out'
-    → TookTold takes out out' answers.Ended setup guest held part (moved new (without_guest guest part.layers) part.messages part.glances) port' state
-turn-ended {O = O} takes out mid out' setup guest held part new cause port port' state stream.Wait stands going is t told = let e = t.answer in absurd (cc)
-turn-ended {O = O} takes out mid out' setup guest held part new cause port port' state (Fault c) stands going is t told =
+    → TookTold takes out out' answers.Ended setup guest held part (moved new (without_guest guest part.layers) gate part.messages part.glances) port' state
+turn-ended {O = O} takes out mid out' setup guest held part new gate cause port port' state stream.Wait stands going forgotten is t told = let e = t.answer in absurd (cc)
+turn-ended {O = O} takes out mid out' setup guest held part new gate cause port port' state (Fault c) stands going forgotten is t told =
     let C : Cause → Type 0 = λ x. takes mid (Ended guest x) out' in
     let M : O → Type 0 = λ m. takes m (Ended guest c) out' in
-    ended-took takes out out' setup guest held part new port port' state (Stop c) c stands going
+    ended-took takes out out' setup guest held part new gate port port' state (Stop c) c stands going
     (λ left. ([], ap (λ (x : Cut). x.units) (cut-faults part.session.stream.greeted (held ++ left) c (fault-append part.session.stream.greeted held left c is))))
-    refl t.ended t.unread (subst M t.silent (subst C (told-cause cause c t.answer) told))
-turn-ended {O = O} takes out mid out' setup guest held part new cause port port' state (Takes unit behind) stands going is t told = by_clip (is_clip unit) t
+    refl t.ended forgotten t.unread (subst M t.silent (subst C (told-cause cause c t.answer) told))
+turn-ended {O = O} takes out mid out' setup guest held part new gate cause port port' state (Takes unit behind) stands going forgotten is t told = by_clip (is_clip unit) t
   where
     s : SessionView
     s = part.session
 
     by_verdict : (v : Verdict) → verdict part.session.sizes part.session.guest part.session.minor part.session.rows unit ≡ v
         → Decides takes out mid port port' part.session new (turns.Ended cause) (window_of unit) behind v
-        → TookTold takes out out' answers.Ended setup guest held part (moved new (without_guest guest part.layers) part.messages part.glances) port' state
+        → TookTold takes out out' answers.Ended setup guest held part (moved new (without_guest guest part.layers) gate part.messages part.glances) port' state
     by_verdict (Ends c) v_is d =
         let C : Cause → Type 0 = λ x. takes mid (Ended guest x) out' in
         let M : O → Type 0 = λ m. takes m (Ended guest c) out' in
-        ended-took takes out out' setup guest held part new port port' state unit c stands going
+        ended-took takes out out' setup guest held part new gate port port' state unit c stands going
         (λ left. (
           (cut true (behind ++ left)).units,
           ap (λ (x : Cut). x.units) (cut-takes part.session.stream.greeted (held ++ left) unit (behind ++ left) (front_by-append head_fault part.session.stream.greeted held left unit behind is)),
         ))
-        v_is d.ended d.unread (subst M d.silent (subst C (told-cause cause c d.answer) told))
+        v_is d.ended forgotten d.unread (subst M d.silent (subst C (told-cause cause c d.answer) told))
     by_verdict (Greets minor answers) v_is d = let e = d.answer in absurd (cc)
     by_verdict (Goes change answers) v_is d = let e = d.answer in absurd (cc)
     by_verdict (Reads row area) v_is d = let e = d.answer in absurd (cc)
 
-    by_clip : (b : Bool) → TakesUnit takes out mid port port' part.session new (turns.Ended cause) unit behind b → TookTold takes out out' answers.Ended setup guest held part (moved new (without_guest guest part.layers) part.messages part.glances) port' state
+    by_clip : (b : Bool) → TakesUnit takes out mid port port' part.session new (turns.Ended cause) unit behind b → TookTold takes out out' answers.Ended setup guest held part (moved new (without_guest guest part.layers) gate part.messages part.glances) port' state
     by_clip true t = absurd (not-ended cause _ t.answer)
     by_clip false t = by_verdict (verdict part.session.sizes part.session.guest part.session.minor part.session.rows unit) refl t

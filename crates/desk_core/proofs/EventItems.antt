@@ -97,7 +97,7 @@ event-is other is = absurd (cc)
 -- an event that is counted and taken is an item taken
 pub event-item : {O : Type 0} (takes : O → Post → O → Type 0) (out out' : O) (i : Item) (piece : List ℕ) (old counted new : DeskView) (frames : ℕ → PortState) → is_event i ≡ true → counted ≡ counted_in old
     → TakesOn takes out out' i counted new → KeepSessions counted.windows.sessions new.windows.sessions
-    → new.windows ≡ record counted.windows { sessions = new.windows.sessions; layers = new.windows.layers }
+    → new.windows ≡ record counted.windows { sessions = new.windows.sessions; layers = new.windows.layers; gate = new.windows.gate }
     → TakesItem takes out out' i piece old new frames frames
 event-item takes out out' i piece old counted new frames is one took kept rest = record {
   rests = λ setup state stands.

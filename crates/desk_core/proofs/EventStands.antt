@@ -5,14 +5,16 @@ use Rattle.std.proofs.lemmas.Bool.Decides.{nat_tests}
 use Rattle.std.proofs.Math.Seq.{take-append_seam}
 use Rattle.std.proofs.lemmas.List.{get_or_past}
 use Rattle.gui_num.specs.declared.Rect.{Rect}
+use Rattle.desk_laws.specs.declared.setup.Pair.{Pair}
 use Rattle.desk_laws.specs.declared.setup.Setup.{Setup}
 use Rattle.desk_laws.specs.Stream.{front, Wait}
 use Rattle.desk_laws.specs.declared.item.Item.{Item}
 use Rattle.desk_laws.specs.Settle.{settle, IsSettled}
 use Rattle.desk_laws.specs.Events.{route}
-use Rattle.desk_laws.specs.Sizes.{sizes_of}
+use Rattle.desk_laws.specs.Sizes.{Sizes, sizes_of}
 use Rattle.desk_laws.specs.Steps.{event}
 use Rattle.io_ports.specs.Posts.{Leads}
+use Rattle.clipboard_gate.specs.Kept.{GateView, keeping}
 use Rattle.desk_laws.specs.Rows.{mine}
 use Rattle.desk_laws.specs.Layers.{Layers}
 use Rattle.desk_laws.specs.Frames.{PortState}
@@ -29,7 +31,7 @@ use Rattle.desk_core.specs.Kept.{IsKept}
 use Rattle.desk_core.specs.Seated.{AreSeated}
 use Rattle.desk_core.specs.Settling.{HasSeat}
 use Rattle.desk_core.specs.Panes.{rows_in}
-use Rattle.desk_core.specs.Scenes.{IsScene, KeepSessions}
+use Rattle.desk_core.specs.Scenes.{IsScene, KeepSessions, TakePastes}
 use Rattle.desk_core.proofs.GuestPosts.{for_guests-append, for_guests-perform, for_guests-settle}
 
 -- ---- the scene of a state
@@ -66,13 +68,23 @@ module _ (setup : Setup) (held : ℕ → List ℕ) (desk : WindowsView) (frames 
         follow = subst (LayersFollow state.scene.rows) (sym first.layers) first.followed;
       }
 
+  -- their clipboard is that of its scene
+  pub windows-clip : desk.gate ≡ keeping (sizes_of setup).clip_limit state.scene.clip
+  windows-clip = (stands.parts 0 (omega (arith, stands.numbers.some))).gate
+
+  -- each session takes a paste of all that the clipboard can hold
+  pub windows-take : TakePastes desk.gate desk.sessions
+  windows-take = λ guest there.
+      let p : PartStands setup guest (held guest) (part_of guest desk) (frames guest) state = part guest there in
+      ap (λ (s : Sizes). s.clip_limit) p.sizes ∙ sym (ap (λ (g : GateView). g.limit) p.gate)
+
 -- ---- another scene
 
-module _ (setup : Setup) (held : ℕ → List ℕ) (desk : WindowsView) (sessions : List SessionView) (layers : Layers) (seat : Seat) (frames : ℕ → PortState) (state : DeskState) (scene : Scene)
-    (kept : KeepSessions desk.sessions sessions) (is : IsScene sessions layers seat scene) where
-  -- windows with other rows, and with the lists that these have now
+module _ (setup : Setup) (held : ℕ → List ℕ) (desk : WindowsView) (sessions : List SessionView) (layers : Layers) (gate : GateView) (seat : Seat) (frames : ℕ → PortState) (state : DeskState) (scene : Scene)
+    (kept : KeepSessions desk.sessions sessions) (is : IsScene sessions layers seat scene) (holds : gate ≡ keeping (sizes_of setup).clip_limit scene.clip) where
+  -- windows with other rows, with the lists that these have now, and with this clipboard
   abbrev others : WindowsView
-  others = record desk { sessions = sessions; layers = layers }
+  others = record desk { sessions = sessions; layers = layers; gate = gate }
 
   -- the state with another scene
   abbrev seen : DeskState
@@ -90,6 +102,7 @@ module _ (setup : Setup) (held : ℕ → List ℕ) (desk : WindowsView) (session
     apart = is.apart;
     layers = is.has_layers;
     followed = subst (LayersFollow scene.rows) is.has_layers is.follow;
+    gate = holds;
     ended = p.ended ∙ sym (ap (λ (s : SessionView). s.ended) (kept.rest guest));
     opened = λ going.
         let o = p.opened (sym (ap (λ (s : SessionView). s.ended) (kept.rest guest)) ∙ going) in
@@ -111,7 +124,7 @@ module _ (setup : Setup) (held : ℕ → List ℕ) (desk : WindowsView) (session
       is.has_rows.rows guest
       ∙ ap (λ (s : SessionView). s.rows) (get_or_past sessions guest no_session (omega (arith, above, kept.count, stands.numbers.guests)))
 
-  -- windows that differ in nothing but their rows and their lists stand for the state with a scene that has those
+  -- windows that differ in nothing but their rows, their lists and the clipboard stand for the state with a scene that has those
   pub with-scene : StandsWith setup held desk frames state → StandsWith setup held others frames seen
   with-scene stands = record {
     numbers = record {
@@ -120,9 +133,12 @@ module _ (setup : Setup) (held : ℕ → List ℕ) (desk : WindowsView) (session
       background = stands.numbers.background;
       outputs = stands.numbers.outputs;
       border = stands.numbers.border;
+      denied = stands.numbers.denied;
       labels = stands.numbers.labels;
       wide = stands.numbers.wide;
       narrow = stands.numbers.narrow;
+      most_columns = stands.numbers.most_columns;
+      most_rows = stands.numbers.most_rows;
       guests = kept.count ∙ stands.numbers.guests;
       some = stands.numbers.some;
       few = stands.numbers.few;
@@ -138,49 +154,49 @@ module _ (setup : Setup) (held : ℕ → List ℕ) (desk : WindowsView) (session
 -- and so is all that an event tells
 event-posts : (setup : Setup) (i : Item) (state : DeskState) → guest_posts (event setup i state).posts ≡ (event setup i state).posts
 event-posts setup i state =
-    let done = perform (route setup i state.scene) state.scene in
+    let done = perform setup.denied (route setup i state.scene) state.scene in
     for_guests-append done.posts (settle (sizes_of setup) done.scene).posts
-    (for_guests-perform (route setup i state.scene) state.scene) (for_guests-settle (sizes_of setup) done.scene)
+    (for_guests-perform setup.denied (route setup i state.scene) state.scene) (for_guests-settle (sizes_of setup) done.scene)
 
 -- ---- an event
 
 -- an event was taken on every scene of these numbers that the windows and the seat are those of
-abbrev pub TakesEvent : {O : Type 0} → (O → Post → O → Type 0) → O → O → Item → WindowsView → List SessionView → Layers → Seat → Seat → Type 0
-TakesEvent takes out out' i desk sessions layers seat seat' =
-    (setup : Setup) (scene : Scene) → setup.border ≡ desk.border → setup.outputs ≡ desk.picture.outputs
-    → IsScene desk.sessions desk.layers seat scene → IsSettled (sizes_of setup) scene
-    → EventTakes takes out out' desk.sessions sessions layers seat' (sizes_of setup) (and_then (perform (route setup i scene) scene) (settle (sizes_of setup)))
+abbrev pub TakesEvent : {O : Type 0} → (O → Post → O → Type 0) → O → O → Item → WindowsView → List SessionView → Layers → GateView → Seat → Seat → Type 0
+TakesEvent takes out out' i desk sessions layers gate seat seat' =
+    (setup : Setup) (scene : Scene) → setup.border ≡ desk.border → setup.outputs ≡ desk.picture.outputs → setup.denied ≡ desk.denied
+    → IsScene desk.sessions desk.layers seat scene → desk.gate ≡ keeping (sizes_of setup).clip_limit scene.clip → IsSettled (sizes_of setup) scene
+    → EventTakes takes out out' desk.sessions sessions layers gate seat' (sizes_of setup) (and_then (perform setup.denied (route setup i scene) scene) (settle (sizes_of setup)))
 
--- the same from what was taken of other names of these numbers and sessions
-pub event-seen : {O : Type 0} (takes : O → Post → O → Type 0) (out out' : O) (i : Item) (desk : WindowsView) (first sessions : List SessionView) (layers : Layers) (seat seat' : Seat) (outputs : List Rect)
-    → first ≡ desk.sessions → outputs ≡ desk.picture.outputs
-    → ((setup : Setup) (scene : Scene) → setup.border ≡ desk.border → setup.outputs ≡ outputs
-    → IsScene first desk.layers seat scene → IsSettled (sizes_of setup) scene
-    → EventTakes takes out out' first sessions layers seat' (sizes_of setup) (and_then (perform (route setup i scene) scene) (settle (sizes_of setup))))
-    → TakesEvent takes out out' i desk sessions layers seat seat'
-event-seen takes out out' i desk first sessions layers seat seat' outputs same shown took = λ setup scene border o is still.
-    let whole : SceneOutcome = and_then (perform (route setup i scene) scene) (settle (sizes_of setup)) in
-    subst (λ ss. EventTakes takes out out' ss sessions layers seat' (sizes_of setup) whole) same
-    (took setup scene border (o ∙ sym shown) (subst (λ ss. IsScene ss desk.layers seat scene) (sym same) is) still)
+-- the same from what was taken of other names of these numbers, pairs and sessions
+pub event-seen : {O : Type 0} (takes : O → Post → O → Type 0) (out out' : O) (i : Item) (desk : WindowsView) (first sessions : List SessionView) (layers : Layers) (gate : GateView) (seat seat' : Seat) (outputs : List Rect) (denied : List Pair)
+    → first ≡ desk.sessions → outputs ≡ desk.picture.outputs → denied ≡ desk.denied
+    → ((setup : Setup) (scene : Scene) → setup.border ≡ desk.border → setup.outputs ≡ outputs → setup.denied ≡ denied
+    → IsScene first desk.layers seat scene → desk.gate ≡ keeping (sizes_of setup).clip_limit scene.clip → IsSettled (sizes_of setup) scene
+    → EventTakes takes out out' first sessions layers gate seat' (sizes_of setup) (and_then (perform setup.denied (route setup i scene) scene) (settle (sizes_of setup))))
+    → TakesEvent takes out out' i desk sessions layers gate seat seat'
+event-seen takes out out' i desk first sessions layers gate seat seat' outputs denied same shown pairs took = λ setup scene border os ps is holds still.
+    let whole : SceneOutcome = and_then (perform setup.denied (route setup i scene) scene) (settle (sizes_of setup)) in
+    subst (λ ss. EventTakes takes out out' ss sessions layers gate seat' (sizes_of setup) whole) same
+    (took setup scene border (os ∙ sym shown) (ps ∙ sym pairs) (subst (λ ss. IsScene ss desk.layers seat scene) (sym same) is) holds still)
 
 -- sessions written back over those that were there
 pub written-back : {X : Type 0} (n : ℕ) (new rest : List X) → length new ≡ n → take n (new ++ rest) ≡ new
 written-back n new rest same = ap (λ k. take k (new ++ rest)) (sym same) ∙ take-append_seam new rest
 
-module _ {O : Type 0} (takes : O → Post → O → Type 0) (out out' : O) (i : Item) (desk : WindowsView) (sessions : List SessionView) (layers : Layers) (seat seat' : Seat)
-    (taken : TakesEvent takes out out' i desk sessions layers seat seat') where
+module _ {O : Type 0} (takes : O → Post → O → Type 0) (out out' : O) (i : Item) (desk : WindowsView) (sessions : List SessionView) (layers : Layers) (gate : GateView) (seat seat' : Seat)
+    (taken : TakesEvent takes out out' i desk sessions layers gate seat seat') where
   -- the windows after it
   abbrev pub after : WindowsView
-  after = record desk { sessions = sessions; layers = layers }
+  after = record desk { sessions = sessions; layers = layers; gate = gate }
 
   -- on the scene of a state that the windows and the seat stand for
   taken-at : (setup : Setup) (held : ℕ → List ℕ) (frames : ℕ → PortState) (state : DeskState) → StandsWith setup held desk frames state → HasSeat setup seat state
-      → EventTakes takes out out' desk.sessions sessions layers seat' (sizes_of setup) (and_then (perform (route setup i state.scene) state.scene) (settle (sizes_of setup)))
+      → EventTakes takes out out' desk.sessions sessions layers gate seat' (sizes_of setup) (and_then (perform setup.denied (route setup i state.scene) state.scene) (settle (sizes_of setup)))
   taken-at setup held frames state stands has =
       let n = stands.numbers in
       let is : IsScene desk.sessions desk.layers seat state.scene =
       subst (λ (s : Seat). IsScene desk.sessions desk.layers s state.scene) has.same (windows-scene setup held desk frames state stands) in
-      taken setup state.scene (sym n.border) (sym n.outputs) is has.settled
+      taken setup state.scene (sym n.border) (sym n.outputs) (sym n.denied) is (windows-clip setup held desk frames state stands) has.settled
 
   -- the windows and the seat stand for the state after it
   pub event-stands : (setup : Setup) (held : ℕ → List ℕ) (frames : ℕ → PortState) (state : DeskState) → StandsWith setup held desk frames state → HasSeat setup seat state
@@ -188,7 +204,7 @@ module _ {O : Type 0} (takes : O → Post → O → Type 0) (out out' : O) (i : 
   event-stands setup held frames state stands has =
       let t = taken-at setup held frames state stands has in
       record {
-        stands = with-scene setup held desk sessions layers seat' frames state (event setup i state).desk.scene t.kept t.scene stands;
+        stands = with-scene setup held desk sessions layers gate seat' frames state (event setup i state).desk.scene t.kept t.scene t.clip stands;
         seated = record { same = t.scene.has_seat; settled = t.settled };
         posts = subst (λ ps. Leads takes out ps out') (sym (event-posts setup i state)) t.posts;
       }

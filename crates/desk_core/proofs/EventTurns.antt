@@ -1,16 +1,18 @@
 -- What an event of the user does to a desk, from what the router routes and what is carried out of it.
-use Rattle.std.proofs.Common.{◌≡◌, ℕ, ◌≤◌, Bool, true, List, [], length, refl, sym, ◌∙◌, subst, arith}
+use Rattle.std.proofs.Common.{◌≡◌, ℕ, ◌≤◌, Bool, true, List, [], length, refl, sym, ◌∙◌, ap, subst, arith}
+use Rattle.desk_laws.specs.declared.setup.Pair.{Pair}
 use Rattle.desk_laws.specs.declared.setup.Setup.{Setup}
 use Rattle.desk_laws.specs.declared.item.Item.{Item}
 use Rattle.desk_laws.specs.Sizes.{Sizes, sizes_of}
 use Rattle.desk_laws.specs.Layers.{Layers}
-use Rattle.desk_laws.specs.Scene.{Scene, Seat, Post, Delivery, InputOutcome, SceneOutcome, unchanged, and_then, ignored, perform, scene_of_input}
+use Rattle.desk_laws.specs.Scene.{Scene, Seat, Post, Delivery, InputOutcome, SceneOutcome, unchanged, and_then, deliver_all, ignored, perform, scene_of_input}
 use Rattle.desk_laws.specs.Settle.{settle, IsSettled}
 use Rattle.desk_laws.specs.Events.{route}
 use Rattle.desk_laws.proofs.EventLayers.{event-lists, event-listed}
 use Rattle.desk_laws.proofs.ListedLemmas.{AreListed}
-use Rattle.desk_laws.proofs.SettleLemmas.{all-seat}
+use Rattle.desk_laws.proofs.SettleLemmas.{all-seat, settle-clip}
 use Rattle.desk_laws.proofs.SettledLemmas.{settle-settles, settled-outcome}
+use Rattle.clipboard_gate.specs.Kept.{GateView, keeping}
 use Rattle.input_router.specs.declared.router.Taken.{Taken}
 use Rattle.input_router.specs.Deliveries as queue
 use Rattle.input_router.specs.Presents.{Presents}
@@ -22,7 +24,7 @@ use Rattle.guest_session.specs.SessionView.{SessionView}
 use Rattle.desk_core.specs.EventSteps.{Performs, EventTakes}
 use Rattle.desk_core.specs.Places.{spots_of}
 use Rattle.desk_core.specs.Queued.{Queues}
-use Rattle.desk_core.specs.Scenes.{HasRowsOf, KeepSessions, CarriedOut, IsScene, Settles}
+use Rattle.desk_core.specs.Scenes.{HasRowsOf, KeepSessions, Delivered, IsScene, Settles}
 use Rattle.desk_core.proofs.PostLemmas.{leads-append}
 use Rattle.desk_core.proofs.SceneLemmas.{kept-same}
 use Rattle.desk_core.proofs.SettledScenes.{rows-same, scene-presents, settled-scene, queued-all}
@@ -40,66 +42,72 @@ event-routed P border setup i sessions layers seat scene same on is still routes
     routes setup scene shown (listed-mapped scene is.apart is.follow) still on
 
 -- what was routed and carried out is what the definitions perform
-pub event-performed : {O : Type 0} (takes : O → Post → O → Type 0) (out out' : O) (sessions sessions' : List SessionView) (before after : Layers) (seat seat' : Seat) (taken : Taken) (first waiting : List Delivery) (setup : Setup) (i : Item) (scene : Scene)
-    → IsScene sessions before seat scene → IsSettled (sizes_of setup) scene → first ≡ []
+pub event-performed : {O : Type 0} (takes : O → Post → O → Type 0) (out out' : O) (sessions sessions' : List SessionView) (before after : Layers) (gate gate' : GateView) (seat seat' : Seat) (taken : Taken) (denied : List Pair) (first waiting : List Delivery) (setup : Setup) (i : Item) (scene : Scene)
+    → setup.denied ≡ denied → IsScene sessions before seat scene → gate ≡ keeping (sizes_of setup).clip_limit scene.clip → IsSettled (sizes_of setup) scene → first ≡ []
     → Takes Queues first waiting seat' before after taken setup i scene
-    → ((s : Scene) → HasRowsOf sessions s → CarriedOut takes out out' sessions sessions' waiting s)
-    → Performs takes out out' sessions sessions' after seat' taken.settled (sizes_of setup) (perform (route setup i scene) scene)
-event-performed takes out out' sessions sessions' before after seat seat' taken first waiting setup i scene is still none routes done =
+    → KeepSessions sessions sessions'
+    → ((limit : ℕ) (s : Scene) → HasRowsOf sessions s → gate ≡ keeping limit s.clip → Delivered takes out out' sessions' limit gate' (deliver_all denied waiting s))
+    → Performs takes out out' sessions sessions' after gate' seat' taken.settled (sizes_of setup) (perform setup.denied (route setup i scene) scene)
+event-performed takes out out' sessions sessions' before after gate gate' seat seat' taken denied first waiting setup i scene pairs is holds still none routes kept done =
     let r : InputOutcome = route setup i scene in
     let start : Scene = scene_of_input r scene in
+    let limit = (sizes_of setup).clip_limit in
     let few : length r.deliveries ≤ 5 = omega (arith, route-few setup i scene) in
     let from_none : queue.Leads Queues [] r.deliveries waiting = subst (λ ds. queue.Leads Queues ds r.deliveries waiting) none routes.carries.leads in
     let all : waiting ≡ r.deliveries = queued-all r.deliveries waiting few from_none in
-    let carried : CarriedOut takes out out' sessions sessions' r.deliveries start =
-    subst (λ ds. CarriedOut takes out out' sessions sessions' ds start) all (done start (rows-same sessions scene start refl is.has_rows)) in
+    let P : List Pair → Type 0 = λ ps. Delivered takes out out' sessions' limit gate' (deliver_all ps r.deliveries start) in
+    let carried : Delivered takes out out' sessions' limit gate' (deliver_all setup.denied r.deliveries start) =
+    subst P (sym pairs)
+    (subst (λ ds. Delivered takes out out' sessions' limit gate' (deliver_all denied ds start)) all (done limit start (rows-same sessions scene start refl is.has_rows) holds)) in
     let known : AreListed scene = record { apart = is.apart; lists = is.follow } in
-    let listed : AreListed (perform r scene).scene = event-listed scene known setup i in
+    let listed : AreListed (perform setup.denied r scene).scene = event-listed setup.denied scene known setup i in
     record {
       scene = record {
-        has_rows = carried.rows;
+        has_rows = carried.carried.rows;
         apart = listed.apart;
-        has_layers = event-lists scene known setup i ∙ sym routes.has_layers;
-        has_seat = all-seat r.deliveries start ∙ sym routes.carries.has_seat;
+        has_layers = event-lists setup.denied scene known setup i ∙ sym routes.has_layers;
+        has_seat = all-seat setup.denied r.deliveries start ∙ sym routes.carries.has_seat;
         follow = listed.lists;
       };
-      posts = carried.posts;
-      kept = carried.kept;
+      clip = carried.clip;
+      posts = carried.carried.posts;
+      kept = kept;
       settled = λ stays. event-settled setup i scene is.follow still (sym routes.settled ∙ stays);
     }
 
 -- ---- focus and hover behind it
 
 -- what was performed, and then settled
-pub event-taken : {O : Type 0} (takes : O → Post → O → Type 0) (out middle out' : O) (sessions performed sessions' : List SessionView) (layers : Layers) (seat seat' : Seat) (stays : Bool) (sizes : Sizes) (outcome : SceneOutcome)
-    → Performs takes out middle sessions performed layers seat stays sizes outcome → Settles takes middle out' performed sessions' seat' sizes outcome.scene
-    → EventTakes takes out out' sessions sessions' layers seat' sizes (and_then outcome (settle sizes))
-event-taken takes out middle out' sessions performed sessions' layers seat seat' stays sizes outcome first next =
+pub event-taken : {O : Type 0} (takes : O → Post → O → Type 0) (out middle out' : O) (sessions performed sessions' : List SessionView) (layers : Layers) (gate gate' : GateView) (seat seat' : Seat) (stays : Bool) (sizes : Sizes) (outcome : SceneOutcome)
+    → Performs takes out middle sessions performed layers gate seat stays sizes outcome → Settles takes middle out' performed sessions' gate gate' seat' sizes outcome.scene
+    → EventTakes takes out out' sessions sessions' layers gate' seat' sizes (and_then outcome (settle sizes))
+event-taken takes out middle out' sessions performed sessions' layers gate gate' seat seat' stays sizes outcome first next =
     let after : Scene = (settle sizes outcome.scene).scene in
     let same : IsScene performed layers seat' after =
     subst (λ (s : Seat). IsScene performed layers s after) (sym next.has_seat) (settled-scene sizes performed layers seat outcome.scene first.scene) in
     record {
       scene = subst (λ ss. IsScene ss layers seat' after) (sym next.same_sessions) same;
+      clip = next.same_gate ∙ first.clip ∙ ap (keeping sizes.clip_limit) (sym (settle-clip sizes outcome.scene));
       settled = settle-settles sizes outcome.scene first.scene.follow;
       posts = leads-append takes outcome.posts (settle sizes outcome.scene).posts out middle out' first.posts next.posts;
       kept = subst (KeepSessions sessions) (sym next.same_sessions) first.kept;
     }
 
 -- what was performed where focus and hover stay
-pub event-silent : {O : Type 0} (takes : O → Post → O → Type 0) (out out' : O) (sessions sessions' : List SessionView) (layers : Layers) (seat : Seat) (stays : Bool) (sizes : Sizes) (outcome : SceneOutcome)
-    → Performs takes out out' sessions sessions' layers seat stays sizes outcome → stays ≡ true
-    → EventTakes takes out out' sessions sessions' layers seat sizes (and_then outcome (settle sizes))
-event-silent takes out out' sessions sessions' layers seat stays sizes outcome first same =
+pub event-silent : {O : Type 0} (takes : O → Post → O → Type 0) (out out' : O) (sessions sessions' : List SessionView) (layers : Layers) (gate : GateView) (seat : Seat) (stays : Bool) (sizes : Sizes) (outcome : SceneOutcome)
+    → Performs takes out out' sessions sessions' layers gate seat stays sizes outcome → stays ≡ true
+    → EventTakes takes out out' sessions sessions' layers gate seat sizes (and_then outcome (settle sizes))
+event-silent takes out out' sessions sessions' layers gate seat stays sizes outcome first same =
     let still : IsSettled sizes outcome.scene = first.settled same in
-    subst (EventTakes takes out out' sessions sessions' layers seat sizes) (sym (settled-outcome sizes outcome still))
-    (record { scene = first.scene; settled = still; posts = first.posts; kept = first.kept })
+    subst (EventTakes takes out out' sessions sessions' layers gate seat sizes) (sym (settled-outcome sizes outcome still))
+    (record { scene = first.scene; clip = first.clip; settled = still; posts = first.posts; kept = first.kept })
 
 -- an event that does nothing
-pub event-ignored : {O : Type 0} (takes : O → Post → O → Type 0) (out : O) (sessions : List SessionView) (layers : Layers) (seat : Seat) (setup : Setup) (i : Item) (scene : Scene)
-    → route setup i scene ≡ ignored scene → IsScene sessions layers seat scene → IsSettled (sizes_of setup) scene
-    → EventTakes takes out out sessions sessions layers seat (sizes_of setup) (and_then (perform (route setup i scene) scene) (settle (sizes_of setup)))
-event-ignored takes out sessions layers seat setup i scene nothing is still =
-    let P : InputOutcome → Type 0 = λ r. EventTakes takes out out sessions sessions layers seat (sizes_of setup) (and_then (perform r scene) (settle (sizes_of setup))) in
+pub event-ignored : {O : Type 0} (takes : O → Post → O → Type 0) (out : O) (sessions : List SessionView) (layers : Layers) (gate : GateView) (seat : Seat) (setup : Setup) (i : Item) (scene : Scene)
+    → route setup i scene ≡ ignored scene → IsScene sessions layers seat scene → gate ≡ keeping (sizes_of setup).clip_limit scene.clip → IsSettled (sizes_of setup) scene
+    → EventTakes takes out out sessions sessions layers gate seat (sizes_of setup) (and_then (perform setup.denied (route setup i scene) scene) (settle (sizes_of setup)))
+event-ignored takes out sessions layers gate seat setup i scene nothing is holds still =
+    let P : InputOutcome → Type 0 = λ r. EventTakes takes out out sessions sessions layers gate seat (sizes_of setup) (and_then (perform setup.denied r scene) (settle (sizes_of setup))) in
     subst P (sym nothing)
-    (event-silent takes out out sessions sessions layers seat true (sizes_of setup) (unchanged scene)
-    (record { scene = is; posts = refl; kept = kept-same sessions; settled = λ _. still }) refl)
+    (event-silent takes out out sessions sessions layers gate seat true (sizes_of setup) (unchanged scene)
+    (record { scene = is; clip = holds; posts = refl; kept = kept-same sessions; settled = λ _. still }) refl)

@@ -2,14 +2,15 @@
 use Rattle.std.proofs.Common.{◌≡◌, ℕ, List, [], ◌∷◌, ◌++◌, Option, Some, None, Bool, true, false, refl, ◌∙◌, ap}
 use Rattle.std.specs.Prelude.{if◌then◌else◌}
 use Rattle.desk_laws.specs.declared.input.GIn.{GIn}
-use Rattle.desk_laws.specs.declared.input.GIn.TheVariants.{ClipAsk}
+use Rattle.desk_laws.specs.declared.input.GIn.TheVariants.{ClipAsk, ClipGive}
 use Rattle.desk_laws.specs.declared.row_id.RowId.{RowId}
-use Rattle.desk_laws.specs.Clipboard.{Content, ask}
+use Rattle.desk_laws.specs.declared.setup.Pair.{Pair}
+use Rattle.desk_laws.specs.Clipboard.{Content, ask, wiped}
+use Rattle.desk_laws.specs.Pairs.{denies}
 use Rattle.desk_laws.specs.Grants.{granted}
-use Rattle.desk_laws.specs.Scene.{Scene, Post, InputOutcome, Delivery, Grants, Asks, Pastes, grant_where, grant, asks, pastes, unchanged, with_clip, deliver, deliver_all, perform, scene_of_input}
+use Rattle.desk_laws.specs.Scene.{Scene, Post, InputOutcome, Delivery, Grants, Asks, Pastes, grant_where, grant, pastes, unchanged, with_clip, deliver, deliver_all, perform, scene_of_input}
 use Rattle.desk_laws.specs.Settle.{grab_checked, settled, settle}
 use Rattle.desk_laws.specs.Sizes.{Sizes}
-use Rattle.desk_laws.specs.Stage.{uses_clipboard}
 use Rattle.desk_core.specs.DeskPosts.{guest_posts}
 use Rattle.desk_core.proofs.PostLemmas.{guest-append, guest-replies}
 
@@ -30,31 +31,28 @@ for_guests-grant_where true id input paste scene = guest-replies id.guest (grant
 for_guests-grant : (id : RowId) (input : GIn) (paste : List ℕ) (scene : Scene) → AreForGuests (grant id input paste scene).posts
 for_guests-grant id input paste scene = for_guests-grant_where _ id input paste scene
 
-for_guests-pastes : (id : RowId) (content : Option Content) (scene : Scene) → AreForGuests (pastes id content scene).posts
-for_guests-pastes id None scene = refl
-for_guests-pastes id (Some content) scene = for_guests-grant id _ content.bytes _
+module _ (denied : List Pair) where
+  for_guests-pastes : (id : RowId) (content : Option Content) (scene : Scene) → AreForGuests (pastes denied id content scene).posts
+  for_guests-pastes id None scene = refl
+  for_guests-pastes id (Some content) scene = by_denied (denies denied content.source id.guest)
+    where
+      by_denied : (b : Bool) → AreForGuests (if b then unchanged scene else grant id (ClipGive id.window) content.bytes (with_clip (wiped scene.clip) scene)).posts
+      by_denied true = refl
+      by_denied false = for_guests-grant id (ClipGive id.window) content.bytes (with_clip (wiped scene.clip) scene)
 
-for_guests-deliver : (d : Delivery) (scene : Scene) → AreForGuests (deliver d scene).posts
-for_guests-deliver (Grants id input) scene = for_guests-grant id input [] scene
-for_guests-deliver (Asks id) scene = by_stage uses_clipboard
-  where
-    by_stage : (b : Bool) → AreForGuests (if b then asks id scene else unchanged scene).posts
-    by_stage true = for_guests-grant id (ClipAsk id.window) [] (with_clip (ask id.guest scene.clip) scene)
-    by_stage false = refl
-for_guests-deliver (Pastes id) scene = by_stage uses_clipboard
-  where
-    by_stage : (b : Bool) → AreForGuests (if b then pastes id scene.clip.content scene else unchanged scene).posts
-    by_stage true = for_guests-pastes id scene.clip.content scene
-    by_stage false = refl
+  for_guests-deliver : (d : Delivery) (scene : Scene) → AreForGuests (deliver denied d scene).posts
+  for_guests-deliver (Grants id input) scene = for_guests-grant id input [] scene
+  for_guests-deliver (Asks id) scene = for_guests-grant id (ClipAsk id.window) [] (with_clip (ask id.guest scene.clip) scene)
+  for_guests-deliver (Pastes id) scene = for_guests-pastes id scene.clip.content scene
 
-for_guests-deliver_all : (deliveries : List Delivery) (scene : Scene) → AreForGuests (deliver_all deliveries scene).posts
-for_guests-deliver_all [] scene = refl
-for_guests-deliver_all (d ∷ deliveries) scene =
-    for_guests-append (deliver d scene).posts (deliver_all deliveries (deliver d scene).scene).posts
-    (for_guests-deliver d scene) (for_guests-deliver_all deliveries (deliver d scene).scene)
+  for_guests-deliver_all : (deliveries : List Delivery) (scene : Scene) → AreForGuests (deliver_all denied deliveries scene).posts
+  for_guests-deliver_all [] scene = refl
+  for_guests-deliver_all (d ∷ deliveries) scene =
+      for_guests-append (deliver denied d scene).posts (deliver_all denied deliveries (deliver denied d scene).scene).posts
+      (for_guests-deliver d scene) (for_guests-deliver_all deliveries (deliver denied d scene).scene)
 
-pub for_guests-perform : (r : InputOutcome) (scene : Scene) → AreForGuests (perform r scene).posts
-for_guests-perform r scene = for_guests-deliver_all r.deliveries (scene_of_input r scene)
+  pub for_guests-perform : (r : InputOutcome) (scene : Scene) → AreForGuests (perform denied r scene).posts
+  for_guests-perform r scene = for_guests-deliver_all r.deliveries (scene_of_input r scene)
 
 pub for_guests-settle : (sizes : Sizes) (scene : Scene) → AreForGuests (settle sizes scene).posts
-for_guests-settle sizes scene = for_guests-perform (settled sizes (grab_checked scene)) scene
+for_guests-settle sizes scene = for_guests-perform [] (settled sizes (grab_checked scene)) scene

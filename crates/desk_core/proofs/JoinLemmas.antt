@@ -46,7 +46,7 @@ alone-none guest desk = record { rest = refl; guests = refl; sizes = refl; other
 
 pub alone-both : (guest : ℕ) (a b c : WindowsView) → ChangesPart guest a b → ChangesPart guest b c → ChangesPart guest a c
 alone-both guest a b c first next = record {
-  rest = next.rest ∙ ap (λ (d : WindowsView). record d { sessions = c.sessions; layers = c.layers; messages = c.messages; glances = c.glances }) first.rest;
+  rest = next.rest ∙ ap (λ (d : WindowsView). record d { sessions = c.sessions; layers = c.layers; gate = c.gate; messages = c.messages; glances = c.glances }) first.rest;
   guests = next.guests ∙ first.guests;
   sizes = next.sizes ∙ first.sizes;
   others = λ other apart. next.others other apart ∙ first.others other apart;
@@ -78,6 +78,7 @@ other-stands setup guest other held behind part new port port' before after apar
       apart = own.apart;
       layers = own.layers;
       followed = own.followed;
+      gate = own.gate;
       ended = ap (λ (s : Session). s.ended) left.session ∙ old.ended;
       opened = λ going.
           let o = old.opened going in
@@ -105,9 +106,12 @@ join setup guest held held' desk desk' frames frames' before after stands own le
     background = ap (λ (d : WindowsView). d.picture.background) alone.rest ∙ n.background;
     outputs = ap (λ (d : WindowsView). d.picture.outputs) alone.rest ∙ n.outputs;
     border = ap (λ (d : WindowsView). d.border) alone.rest ∙ n.border;
+    denied = ap (λ (d : WindowsView). d.denied) alone.rest ∙ n.denied;
     labels = λ g below. ap (λ (d : WindowsView). slice_get d.labels g) alone.rest ∙ n.labels g below;
     wide = n.wide;
     narrow = n.narrow;
+    most_columns = n.most_columns;
+    most_rows = n.most_rows;
     guests = alone.guests ∙ n.guests;
     some = n.some;
     few = n.few;

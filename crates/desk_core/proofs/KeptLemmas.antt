@@ -5,6 +5,7 @@ use Rattle.desk_laws.specs.Following.{without_guest}
 use Rattle.desk_laws.specs.Frames.{PortState}
 use Rattle.desk_laws.specs.Scene.{Post, Closing}
 use Rattle.desk_laws.specs.State.{DeskState, count_item, session_of, with_session}
+use Rattle.clipboard_gate.specs.Kept.{GateView}
 use Rattle.guest_session.specs.SessionView.{SessionView, IsEnded}
 use Rattle.desk_core.specs.WindowsView.{WindowsView, PartView, ChangesPart, guests_of, part_of, put, session_in, with_part}
 use Rattle.desk_core.specs.WindowsStand.{PartStands, item_counted}
@@ -12,7 +13,7 @@ use Rattle.desk_core.specs.Kept.{IsKept}
 use Rattle.desk_core.specs.Pieces.{LeavesOthers, PushesPiece}
 use Rattle.desk_core.specs.declared.windows.Told.{Told}
 use Rattle.desk_core.specs.Telling.{TookTold}
-use Rattle.desk_core.proofs.EndStands.{ended_told, ends-stands}
+use Rattle.desk_core.proofs.EndStands.{Forgets, ended_told, ends-stands}
 use Rattle.desk_core.proofs.JoinLemmas.{put-same, put-other, part-in, part-alone, join, part-stands, focus-few}
 use Rattle.desk_core.proofs.LeaveLemmas.{leaves-all, leaves-both, ends-leaves}
 use Rattle.desk_core.proofs.StandLemmas.{moved, counts-with, put-leaves, pushed-with, with-frames}
@@ -76,12 +77,12 @@ pushed-kept room guest desk session piece size kept there pushed =
     (λ going. pushed.stands going (kept.held guest) (part.opened going).stream))
     (leaves-all guest kept.state)
 
-pub ends-kept : (room guest : ℕ) (desk : WindowsView) (new : SessionView) (cause : Cause) → IsKept room desk → guest < guests_of desk → IsEnded (session_in guest desk) cause new
-    → IsKept room (with_part guest (moved new (without_guest guest desk.layers) desk.messages desk.glances) desk)
-ends-kept room guest desk new cause kept there over =
+pub ends-kept : (room guest : ℕ) (desk : WindowsView) (new : SessionView) (gate : GateView) (cause : Cause) → IsKept room desk → guest < guests_of desk → IsEnded (session_in guest desk) cause new → Forgets guest desk.gate gate
+    → IsKept room (with_part guest (moved new (without_guest guest desk.layers) gate desk.messages desk.glances) desk)
+ends-kept room guest desk new gate cause kept there over forgotten =
     let part = part-stands kept.setup kept.held desk kept.frames kept.state kept.stands guest there in
-    part-kept room guest desk (moved new (without_guest guest desk.layers) desk.messages desk.glances) [] (kept.frames guest) (ended_told guest Closing cause kept.state).desk kept there
-    (ends-stands kept.setup guest (kept.held guest) [] (part_of guest desk) new (kept.frames guest) (kept.frames guest) kept.state Closing cause part over refl)
+    part-kept room guest desk (moved new (without_guest guest desk.layers) gate desk.messages desk.glances) [] (kept.frames guest) (ended_told guest Closing cause kept.state).desk kept there
+    (ends-stands kept.setup guest (kept.held guest) [] (part_of guest desk) new gate (kept.frames guest) (kept.frames guest) kept.state Closing cause part over forgotten refl)
     (ends-leaves guest Closing cause kept.state)
 
 -- there is room for the lists of a desk

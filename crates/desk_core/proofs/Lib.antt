@@ -25,6 +25,7 @@ pub mod PaintLemmas
 pub mod LayerLemmas
 pub mod GrantScenes
 pub mod SceneLemmas
+pub mod PasteLemmas
 pub mod SettledScenes
 pub mod EventStands
 pub mod WindowSettles

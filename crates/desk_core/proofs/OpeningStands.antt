@@ -1,5 +1,6 @@
 -- The desk that a setup opens.
-use Rattle.std.proofs.Common.{◌≡◌, ℕ, zero, suc, nat_le, ◌+◌, ◌<◌, ◌≤◌, ◌==◌, Bool, true, false, List, [], ◌∷◌, ◌++◌, length, map, get_or, Some, None, refl, sym, ◌∙◌, ap, subst, arith}
+use Rattle.std.proofs.Common.{◌≡◌, ℕ, zero, suc, nat_le, ◌+◌, ◌<◌, ◌≤◌, ◌==◌, Bool, true, false, List, [], ◌∷◌, ◌++◌, length, map, get_or, Option, Some, None, refl, sym, ◌∙◌, ap, subst, arith}
+use Rattle.std.specs.List.{All}
 use Rattle.std.specs.Prelude.{option_map, slice_get, slice_index_or}
 use Rattle.std.proofs.Math.Seq.{get_or-append_seam}
 use Rattle.std.proofs.lemmas.Bool.{and_parts, eqb-true, eqb-false, leb-true}
@@ -8,7 +9,9 @@ use Rattle.std.proofs.lemmas.List.{get_or-replicate, get_or_append_left, length-
 use Rattle.desk_laws.specs.declared.setup.GuestSetup.{GuestSetup}
 use Rattle.desk_laws.specs.declared.setup.Setup.{Setup}
 use Rattle.desk_laws.specs.Picture.{label_in}
-use Rattle.desk_laws.specs.Rules.{first_broken, first_false, rules}
+use Rattle.desk_laws.specs.Rules.{first_broken, first_false, later_rules, or_later, rules}
+use Rattle.desk_laws.specs.Clipboard.{empty_clip}
+use Rattle.desk_laws.specs.Sizes.{sizes_of}
 use Rattle.desk_laws.specs.Rows.{Row}
 use Rattle.desk_laws.specs.Stream.{front}
 use Rattle.desk_laws.specs.Layers.{Layers, no_layers}
@@ -16,11 +19,14 @@ use Rattle.desk_laws.specs.Following.{LayersFollow}
 use Rattle.desk_laws.specs.Frames.{PortState}
 use Rattle.desk_laws.specs.State.{Session, session_of, opening, fresh}
 use Rattle.desk_laws.proofs.FollowChanges.{none-follow}
+use Rattle.clipboard_gate.specs.Kept.{keeping}
 use Rattle.guest_session.specs.SessionView.{SessionView, AreRows}
 use Rattle.frame_pool.specs.Ports.{AreZeros}
+use Rattle.compositor.specs.PictureView.{LiesIn}
 use Rattle.desk_core.specs.WindowsView.{WindowsView, no_session, part_of, session_in}
 use Rattle.desk_core.specs.WindowsStand.{HasNumbers, IsFresh, PartStands, AreAtRest, StandsWith, rests_of}
 use Rattle.desk_core.proofs.EndStands.{no-rows}
+use Rattle.desk_core.proofs.OutputLemmas.{outputs-lie}
 
 -- each guest's session is a fresh one
 first-session : (setup : Setup) (guest : ℕ) → guest < length setup.guests → session_of guest (opening setup) ≡ fresh setup.pages
@@ -31,6 +37,7 @@ pub record IsOpened (setup : Setup) (desk : WindowsView) : Type 0 where
   pub numbers : HasNumbers setup desk
   pub sessions : (guest : ℕ) → guest < length setup.guests → IsFresh setup guest (session_in guest desk)
   pub layers : desk.layers ≡ no_layers
+  pub gate : desk.gate ≡ keeping (sizes_of setup).clip_limit empty_clip
   pub items : desk.items ≡ 0
   pub messages : desk.messages ≡ 0
   pub glances : desk.glances ≡ 0
@@ -53,6 +60,7 @@ part-opened setup guest desk frames blank opened below =
       apart = refl;
       layers = sym opened.layers;
       followed = subst M (sym opened.layers) none-follow;
+      gate = opened.gate;
       ended = ap (λ (s : Session). s.ended) session ∙ sym (ap (λ (s : SessionView). s.ended) new);
       opened = λ _. record {
         greeted = ap (λ (s : Session). s.greeted) session ∙ sym made.greeted;
@@ -122,6 +130,19 @@ rule-holds n (true ∷ bs) zero is = refl
 rule-holds n (true ∷ bs) (suc k) is = rule-holds (n + 1) bs k is
 rule-holds n (false ∷ bs) k is = cc
 
+-- where no rule is broken, none of the first ones is, and none of the later ones
+both-kept : (first later : Option ℕ) → or_later first later ≡ None → (first ≡ None) × (later ≡ None)
+both-kept None later is = (refl, is)
+both-kept (Some n) later is = cc
+
 -- borders are a pixel wide or more
 pub border-wide : (setup : Setup) → first_broken setup ≡ None → 1 ≤ setup.border
-border-wide setup is = leb-true 1 setup.border (and_parts (nat_le 1 setup.border) (nat_le setup.border 16) (rule-holds 1 (rules setup) 4 is)).0
+border-wide setup is =
+    let first = (both-kept (first_false 1 (rules setup)) (first_false 17 (later_rules setup)) is).0 in
+    leb-true 1 setup.border (and_parts (nat_le 1 setup.border) (nat_le setup.border 16) (rule-holds 1 (rules setup) 4 first)).0
+
+-- the outputs lie in the plane
+pub outputs-placed : (setup : Setup) → first_broken setup ≡ None → All (LiesIn setup.width setup.height) setup.outputs
+outputs-placed setup is =
+    outputs-lie setup.width setup.height setup.outputs
+    (rule-holds 17 (later_rules setup) 1 (both-kept (first_false 1 (rules setup)) (first_false 17 (later_rules setup)) is).1)

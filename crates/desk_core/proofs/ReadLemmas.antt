@@ -4,6 +4,7 @@ use Rattle.std.specs.Prelude.{if◌then◌else◌, nat_lt, ◌/◌, ◌%◌}
 use Rattle.std.proofs.lemmas.Bool.{eqb-true}
 use Rattle.std.proofs.lemmas.List.{length-map}
 use Rattle.std.proofs.Math.Nat.{suc-mul}
+use Rattle.gui_num.specs.declared.Rect.{Rect}
 use Rattle.gui_wire.specs.declared.Header.{Header}
 use Rattle.gui_wire.specs.AgentMessages as agent
 use Rattle.gui_wire.specs.AgentMessages.{AgentMessage, reading}
@@ -11,11 +12,12 @@ use Rattle.desk_laws.specs.declared.cause.Cause.{Cause}
 use Rattle.desk_laws.specs.declared.cause.Cause.TheVariants.{PixelBudget, BadVersion}
 use Rattle.desk_laws.specs.Sizes.{Sizes}
 use Rattle.desk_laws.specs.Stream.{StreamUnit, Word, Stop, Whole}
+use Rattle.desk_laws.specs.Outputs.{output_of}
 use Rattle.desk_laws.specs.Ranges.{rect_in_range}
 use Rattle.desk_laws.specs.Tiles.{tiles_in_use, tiles_needed}
 use Rattle.desk_laws.specs.Frames.{PortState, FramePlace, load, load_all}
 use Rattle.desk_laws.specs.Rows.{Row, DumpOf, row_with, grid, span, placed_at}
-use Rattle.desk_laws.specs.Effects.{Area, no_area, clipped, points, frame_place, frame_places, drawn_row, Added, Replaced, Verdict, Ends, Greets, Goes, Reads, unless, first_of_causes, exists_already, too_many, bad_ref, over_budget, refs_besides, range_fault, created, id_if, isnt_zero, flagged, goes_full, flags_after, reads, tells_place, whole_desktop, acks, message_to_window, message_to, in_range_verdict, message_verdict, verdict, greeting}
+use Rattle.desk_laws.specs.Effects.{Area, no_area, clipped, points, frame_place, frame_places, drawn_row, Added, Replaced, Verdict, Ends, Greets, Goes, Reads, unless, first_of_causes, exists_already, too_many, bad_ref, over_budget, refs_besides, range_fault, created, id_if, isnt_zero, flagged, flagged_on, goes_full, flags_after, reads, tells_place, whole_output, acks, message_to_window, message_to, in_range_verdict, message_verdict, verdict, greeting}
 use Rattle.desk_laws.specs.Following.{ChangesOne}
 use Rattle.desk_laws.proofs.ChangeLemmas.{found-window}
 use Rattle.desk_laws.proofs.GridLemmas.{length-span}
@@ -41,13 +43,17 @@ module _ (window : ℕ) (own : List Row) where
   of_unless (Some cause) v is = tt
 
   of_flags : (sizes : Sizes) (row : Row) (flags : ℕ) → IsReading window own (flagged sizes row flags)
-  of_flags sizes row flags = by_full (goes_full sizes row flags)
+  of_flags sizes row flags = by_output (output_of sizes.outputs row.place)
     where
-      by_full : (b : Bool) → IsReading window own (if b
-          then Goes (Replaced (placed_at (whole_desktop sizes) (record row { flags = flags }))) (tells_place row.window (whole_desktop sizes) false ∷ [])
+      by_full : (output : Rect) (b : Bool) → IsReading window own (if b
+          then Goes (Replaced (placed_at (whole_output sizes output) (record row { flags = flags }))) (tells_place row.window (whole_output sizes output) false ∷ [])
           else Goes (Replaced (record row { flags = flags })) [])
-      by_full true = tt
-      by_full false = tt
+      by_full output true = tt
+      by_full output false = tt
+
+      by_output : (o : Option Rect) → IsReading window own (flagged_on sizes o row flags)
+      by_output None = tt
+      by_output (Some output) = by_full output (goes_full sizes row flags output)
 
   of_reads : (sizes : Sizes) (row : Row) (read : Area) → IsReadOf window own row read → IsReading window own (reads sizes own row read)
   of_reads sizes row read is = by_tiles (nat_lt (sizes.tiles - tiles_in_use own) (tiles_needed row read.x read.y read.w read.h))

@@ -2,12 +2,14 @@
 use Rattle.std.proofs.Common.{◌≡◌, ℕ, ◌≤◌, ◌+◌, List, [], ◌∷◌, ◌++◌, length, map, refl, sym, ◌∙◌, ap, subst, arith}
 use Rattle.std.specs.Prelude.{option_map}
 use Rattle.std.proofs.lemmas.List.{same_lists, get_or_default, append-nil, append_assoc, length-append}
+use Rattle.desk_laws.specs.declared.setup.Pair.{Pair}
 use Rattle.desk_laws.specs.Layers.{Layers, are_apart}
 use Rattle.desk_laws.specs.Rows.{Row, id_of, mine}
-use Rattle.desk_laws.specs.Scene.{Scene, Seat, Post, Delivery, scene_of_input}
+use Rattle.desk_laws.specs.Scene.{Scene, Seat, Post, Delivery, deliver_all, scene_of_input}
 use Rattle.desk_laws.specs.Settle.{settle, settled, grab_checked}
 use Rattle.desk_laws.specs.Sizes.{Sizes}
-use Rattle.desk_laws.proofs.SettleLemmas.{settle-rows, settle-layers, settle-follow, all-seat}
+use Rattle.desk_laws.proofs.SettleLemmas.{settle-rows, settle-layers, settle-clip, settle-follow, settle-any, all-seat}
+use Rattle.clipboard_gate.specs.Kept.{GateView, keeping}
 use Rattle.input_router.specs.Deliveries as queue
 use Rattle.input_router.specs.Presents.{Presents, Carries}
 use Rattle.input_router.specs.Spots.{spot_of}
@@ -17,7 +19,7 @@ use Rattle.desk_core.specs.WindowsView.{no_session}
 use Rattle.desk_core.specs.Panes.{rows_in}
 use Rattle.desk_core.specs.Places.{spots_of}
 use Rattle.desk_core.specs.Queued.{Queues}
-use Rattle.desk_core.specs.Scenes.{HasRowsOf, KeepSessions, CarriedOut, IsScene, Settles, session_at}
+use Rattle.desk_core.specs.Scenes.{HasRowsOf, KeepSessions, Delivered, IsScene, Settles, session_at}
 use Rattle.desk_core.proofs.SceneLemmas.{row-there}
 
 -- ---- a scene with other seat
@@ -79,22 +81,25 @@ queued-all ds after few leads = queued-behind ds [] after (omega (arith, few)) l
 
 -- ---- settling
 
-pub settle-done : {O : Type 0} (takes : O → Post → O → Type 0) (out out' : O) (sessions sessions' : List SessionView) (layers : Layers) (seat seat' : Seat) (empty waiting : List Delivery) (sizes : Sizes) (scene : Scene)
-    → IsScene sessions layers seat scene
+pub settle-done : {O : Type 0} (takes : O → Post → O → Type 0) (out out' : O) (sessions sessions' : List SessionView) (layers : Layers) (gate gate' : GateView) (seat seat' : Seat) (denied : List Pair) (empty waiting : List Delivery) (sizes : Sizes) (scene : Scene)
+    → IsScene sessions layers seat scene → gate ≡ keeping sizes.clip_limit scene.clip
     → empty ≡ []
     → Carries Queues empty waiting seat' (settled sizes (grab_checked scene))
-    → ((s : Scene) → HasRowsOf sessions s → CarriedOut takes out out' sessions sessions' waiting s)
-    → Settles takes out out' sessions sessions' seat' sizes scene
-settle-done takes out out' sessions sessions' layers seat seat' empty waiting sizes scene is none carries done =
+    → KeepSessions sessions sessions'
+    → ((limit : ℕ) (s : Scene) → HasRowsOf sessions s → gate ≡ keeping limit s.clip → Delivered takes out out' sessions' limit gate' (deliver_all denied waiting s))
+    → Settles takes out out' sessions sessions' gate gate' seat' sizes scene
+settle-done takes out out' sessions sessions' layers gate gate' seat seat' denied empty waiting sizes scene is holds none carries kept done =
+    let limit = sizes.clip_limit in
     let told = settled sizes (grab_checked scene) in
     let start : Scene = scene_of_input told scene in
     let all : waiting ≡ told.deliveries = queued-all told.deliveries waiting (settled-few sizes (grab_checked scene))
     (subst (λ (ds : List Delivery). queue.Leads Queues ds told.deliveries waiting) none carries.leads) in
-    let P : List Delivery → Type 0 = λ ds. CarriedOut takes out out' sessions sessions' ds start in
-    let out_of : CarriedOut takes out out' sessions sessions' told.deliveries start =
-    subst P all (done start (rows-same sessions scene start refl is.has_rows)) in
+    let P : List Delivery → Type 0 = λ ds. Delivered takes out out' sessions' limit gate' (deliver_all denied ds start) in
+    let out_of : Delivered takes out out' sessions' limit gate' (settle sizes scene) =
+    subst (Delivered takes out out' sessions' limit gate') (settle-any sizes scene denied) (subst P all (done limit start (rows-same sessions scene start refl is.has_rows) holds)) in
     record {
-      same_sessions = sessions-same sessions sessions' scene (settle sizes scene).scene out_of.kept is.has_rows out_of.rows (settle-rows sizes scene);
-      has_seat = carries.has_seat ∙ sym (all-seat told.deliveries start);
-      posts = out_of.posts;
+      same_sessions = sessions-same sessions sessions' scene (settle sizes scene).scene kept is.has_rows out_of.carried.rows (settle-rows sizes scene);
+      same_gate = out_of.clip ∙ ap (keeping limit) (settle-clip sizes scene) ∙ sym holds;
+      has_seat = carries.has_seat ∙ sym (all-seat [] told.deliveries start);
+      posts = out_of.carried.posts;
     }

@@ -31,9 +31,9 @@ silent-after setup o is =
     ∙ ap (λ rs. with_all o.desk o.posts o.inputs rs) (append-nil o.readings)
 
 -- a unit that ended nothing is what it told, and then focus and hover
-pub went-settles : (setup : Setup) (guest : ℕ) (unit : StreamUnit) (e : Effect) (state : DeskState) → went setup guest unit e state ≡ settled_after setup (went_told guest unit e state)
+pub went-settles : (setup : Setup) (guest : ℕ) (unit : StreamUnit) (e : Effect) (state : DeskState) → went setup guest unit e state ≡ settled_after setup (went_told setup guest unit e state)
 went-settles setup guest unit e state =
-    let whole = settled_after setup (went_told guest unit e state) in
+    let whole = settled_after setup (went_told setup guest unit e state) in
     ap (λ rs. with_all whole.desk whole.posts whole.inputs rs) (sym (append-nil (map (λ w. record { guest = guest; word = w }) e.readings)))
 
 -- so is a session's end

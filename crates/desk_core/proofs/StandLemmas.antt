@@ -8,13 +8,15 @@ use Rattle.desk_laws.specs.Stream.{StreamUnit, Wait, front, is_greeting}
 use Rattle.desk_laws.specs.Rows.{Row, id_of, mine, row_with, row_at}
 use Rattle.desk_laws.specs.Layers.{Layers, followed, are_apart}
 use Rattle.desk_laws.specs.Frames.{PortState, counted}
+use Rattle.desk_laws.specs.Sizes.{sizes_of}
 use Rattle.desk_laws.specs.Effects.{Effect, Change, changed}
 use Rattle.desk_laws.specs.Following.{LayersFollow, ChangesOne, FollowsRow, after_row}
 use Rattle.desk_laws.specs.State.{DeskState, Session, StepOutcome, on_desk, session_of, with_session, count_item, fresh}
-use Rattle.desk_laws.specs.Steps.{counts_after, messages_of, session_after, unit_told}
+use Rattle.desk_laws.specs.Steps.{clip_of_unit, counts_after, messages_of, session_after, unit_told}
 use Rattle.desk_laws.proofs.UnitLemmas.{session-put}
 use Rattle.desk_laws.proofs.FollowChanges.{lists-follow_one, row_with-mine}
 use Rattle.in_stream.specs.Received.{StandsFor}
+use Rattle.clipboard_gate.specs.Kept.{GateView, keeping}
 use Rattle.guest_session.specs.SessionView.{SessionView, AreRows}
 use Rattle.desk_core.specs.WindowsView.{WindowsView, PartView, part_of, session_in}
 use Rattle.desk_core.specs.WindowsStand.{PartStands, StandsWith, AreAtRest, item_counted, rests_of}
@@ -22,14 +24,14 @@ use Rattle.desk_core.specs.Pieces.{LeavesOthers}
 use Rattle.desk_core.specs.Stacked.{id_in}
 
 -- what a unit told that ended nothing, before focus and hover are told
-abbrev pub went_told : ℕ → StreamUnit → Effect → DeskState → StepOutcome
-went_told guest unit e state =
-    on_desk (unit_told guest unit e state.scene) (map (λ w. record { guest = guest; word = w }) e.readings)
+abbrev pub went_told : Setup → ℕ → StreamUnit → Effect → DeskState → StepOutcome
+went_told setup guest unit e state =
+    on_desk (unit_told (sizes_of setup).clip_limit guest unit e state.scene) (map (λ w. record { guest = guest; word = w }) e.readings)
     (with_session guest (session_after unit e (session_of guest state)) (record state { counts = counts_after unit e state.counts }))
 
--- a guest's part: its session, the lists, and the counts of messages and of words that were read
-abbrev pub moved : SessionView → Layers → (messages glances : ℕ) → PartView
-moved session layers messages glances = record { session = session; layers = layers; messages = messages; glances = glances }
+-- a guest's part: its session, the lists, the clipboard, and the counts of messages and of words that were read
+abbrev pub moved : SessionView → Layers → GateView → (messages glances : ℕ) → PartView
+moved session layers gate messages glances = record { session = session; layers = layers; gate = gate; messages = messages; glances = glances }
 
 counted-more : (n : ℕ) → counted n ≤ 2 ^ 64 - 1
 counted-more n = omega arith
@@ -57,16 +59,21 @@ pub record HadLists (rows : List Row) (old new : Layers) : Type 0 where
   pub follow : LayersFollow rows new
   pub apart : are_apart (map id_of rows) ≡ true
 
+-- the clipboard after a unit
+abbrev pub HadClip : ℕ → StreamUnit → GateView → GateView → Type 0
+HadClip guest unit old new = new ≡ keeping old.limit (clip_of_unit old.limit guest unit old.clip)
+
 -- the counts after a unit with this effect
 pub record AreCounted (unit : StreamUnit) (e : Effect) (part : PartView) (messages glances : ℕ) : Type 0 where
   pub told : messages ≡ counted (part.messages + messages_of unit)
   pub read : glances ≡ counted (part.glances + length e.readings)
 
-pub went-stands : (setup : Setup) (guest : ℕ) (held behind : List ℕ) (part : PartView) (new : SessionView) (layers : Layers) (messages glances : ℕ) (port port' : PortState) (state : DeskState) (unit : StreamUnit) (e : Effect)
+pub went-stands : (setup : Setup) (guest : ℕ) (held behind : List ℕ) (part : PartView) (new : SessionView) (layers : Layers) (gate : GateView) (messages glances : ℕ) (port port' : PortState) (state : DeskState) (unit : StreamUnit) (e : Effect)
     → PartStands setup guest held part port state → part.session.ended ≡ None → HadUnit guest unit e part.session new port' behind → AreRows guest new.rows → HadLists e.rows part.layers layers
+    → HadClip guest unit part.gate gate
     → AreCounted unit e part messages glances
-    → PartStands setup guest behind (moved new layers messages glances) port' (went_told guest unit e state).desk
-went-stands setup guest held behind part new layers messages glances port port' state unit e stands going had own lists counts =
+    → PartStands setup guest behind (moved new layers gate messages glances) port' (went_told setup guest unit e state).desk
+went-stands setup guest held behind part new layers gate messages glances port port' state unit e stands going had own lists clip counts =
     let session : Session = session_after unit e (session_of guest state) in
     let put : session_of guest (with_session guest session state) ≡ session = session-put guest session state stands.there in
     let long : length (with_session guest session state).sessions ≡ length state.sessions = length-set state.sessions guest session in
@@ -80,6 +87,7 @@ went-stands setup guest held behind part new layers messages glances port port' 
       apart = lists.apart;
       layers = ap (λ ls. followed e.rows ls) stands.layers ∙ lists.lists;
       followed = lists.follow;
+      gate = clip ∙ ap (λ (g : GateView). keeping g.limit (clip_of_unit g.limit guest unit g.clip)) stands.gate;
       ended = ap (λ (s : Session). s.ended) put ∙ stands.ended ∙ going ∙ sym had.ended;
       opened = λ _. record {
         greeted = ap (λ (s : Session). s.greeted) put ∙ ap (λ b. is_greeting unit || b) o.greeted ∙ had.greeted;
@@ -95,7 +103,7 @@ went-stands setup guest held behind part new layers messages glances port port' 
 
 -- a unit leaves the rest that the state notes
 pub went-rest : (setup : Setup) (guest : ℕ) (held : List ℕ) (part : PartView) (port : PortState) (state : DeskState) (unit : StreamUnit) (e : Effect)
-    → PartStands setup guest held part port state → (session_of guest (went_told guest unit e state).desk).rest ≡ (session_of guest state).rest
+    → PartStands setup guest held part port state → (session_of guest (went_told setup guest unit e state).desk).rest ≡ (session_of guest state).rest
 went-rest setup guest held part port state unit e stands =
     ap (λ (s : Session). s.rest) (session-put guest (session_after unit e (session_of guest state)) state stands.there)
 
@@ -131,6 +139,7 @@ put-with setup guest held new part port port' state session stands same frames h
       apart = stands.apart;
       layers = stands.layers;
       followed = stands.followed;
+      gate = stands.gate;
       ended = ap (λ (s : Session). s.ended) (put ∙ same) ∙ stands.ended;
       opened = λ going.
           let o = stands.opened going in
@@ -189,6 +198,7 @@ pushed-with setup guest held more part session port state stands same greeted ho
       apart = stands.apart;
       layers = stands.layers;
       followed = stands.followed;
+      gate = stands.gate;
       ended = stands.ended ∙ ended;
       opened = λ still.
           let going = ended ∙ still in
@@ -217,6 +227,7 @@ held-over setup guest held new part port state cause stands over = record {
   apart = stands.apart;
   layers = stands.layers;
   followed = stands.followed;
+  gate = stands.gate;
   ended = stands.ended;
   opened = λ going. cc;
   frames = stands.frames;
@@ -236,9 +247,12 @@ counts-with setup held desk frames state stands = record {
     background = stands.numbers.background;
     outputs = stands.numbers.outputs;
     border = stands.numbers.border;
+    denied = stands.numbers.denied;
     labels = stands.numbers.labels;
     wide = stands.numbers.wide;
     narrow = stands.numbers.narrow;
+    most_columns = stands.numbers.most_columns;
+    most_rows = stands.numbers.most_rows;
     guests = stands.numbers.guests;
     some = stands.numbers.some;
     few = stands.numbers.few;
@@ -255,6 +269,7 @@ counts-with setup held desk frames state stands = record {
         apart = part.apart;
         layers = part.layers;
         followed = part.followed;
+        gate = part.gate;
         ended = part.ended;
         opened = part.opened;
         frames = part.frames;
@@ -284,9 +299,12 @@ picture-with setup held old new frames state same sides stands = record {
     background = sides.2 ∙ stands.numbers.background;
     outputs = sides.3 ∙ stands.numbers.outputs;
     border = ap (λ (d : WindowsView). d.border) same ∙ stands.numbers.border;
+    denied = ap (λ (d : WindowsView). d.denied) same ∙ stands.numbers.denied;
     labels = λ guest below. ap (λ (d : WindowsView). slice_get d.labels guest) same ∙ stands.numbers.labels guest below;
     wide = stands.numbers.wide;
     narrow = stands.numbers.narrow;
+    most_columns = stands.numbers.most_columns;
+    most_rows = stands.numbers.most_rows;
     guests = ap (λ (d : WindowsView). length d.sessions) same ∙ stands.numbers.guests;
     some = stands.numbers.some;
     few = stands.numbers.few;

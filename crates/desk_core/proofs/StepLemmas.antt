@@ -1,6 +1,7 @@
 -- Items, each with what it does.
-use Rattle.std.proofs.Common.{◌≡◌, ◌≢◌, ℕ, true, Option, Some, None, List, ◌+◌, ◌*◌, refl, sym, ◌∙◌, ap, subst}
+use Rattle.std.proofs.Common.{◌≡◌, ◌≢◌, ℕ, true, Option, Some, None, List, [], ◌∷◌, map, ◌+◌, ◌*◌, refl, sym, ◌∙◌, ap, subst}
 use Rattle.std.proofs.lemmas.Bool.{eqb-true}
+use Rattle.gui_num.specs.declared.Rect.{Rect}
 use Rattle.desk_laws.specs.declared.cause.Cause.{Cause}
 use Rattle.desk_laws.specs.declared.cause.Cause.TheVariants.{StreamEnded, LinkFailed}
 use Rattle.desk_laws.specs.declared.item.Item.{Item}
@@ -9,11 +10,13 @@ use Rattle.desk_laws.specs.declared.setup.Setup.{Setup}
 use Rattle.desk_laws.specs.Edges.{EdgesStayApart}
 use Rattle.desk_laws.specs.Endings.{is_item_of}
 use Rattle.desk_laws.specs.Frames.{PortState, counted}
+use Rattle.desk_laws.specs.Layers.{Layers}
+use Rattle.desk_laws.specs.Rows.{Row}
 use Rattle.desk_laws.specs.Scene.{Post, Scene, Closing, Losing}
 use Rattle.desk_laws.specs.Settle.{IsSettled}
 use Rattle.desk_laws.specs.Sizes.{sizes_of}
 use Rattle.desk_laws.specs.State.{DeskState, StepOutcome, count_item, session_of}
-use Rattle.desk_laws.specs.Steps.{step, end_session, store_of_open, take_bytes, take_store}
+use Rattle.desk_laws.specs.Steps.{picture_post, step, end_session, store_of_open, take_bytes, take_store}
 use Rattle.desk_laws.proofs.EdgeLemmas.{pictures-keep_edges}
 use Rattle.desk_laws.proofs.SoundLemmas.{steps-keep_sound}
 use Rattle.io_ports.specs.Posts.{Leads}
@@ -113,6 +116,11 @@ stores-steps takes out setup desk frames state outcome seated stored same =
 
 -- ---- an item of no guest
 
+-- pictures are for no guest
+pictures-none : (setup : Setup) (rows : List Row) (layers : Layers) (outputs : List Rect) → guest_posts (map (picture_post setup rows layers) outputs) ≡ []
+pictures-none setup rows layers [] = refl
+pictures-none setup rows layers (output ∷ outputs) = pictures-none setup rows layers outputs
+
 -- the picture is drawn
 pub snap-item : {O : Type 0} (takes : O → Post → O → Type 0) (out : O) (item : Item) (piece : List ℕ) (old counted-old new : DeskView) (frames : ℕ → PortState) → item ≡ items.Snap → counted-old ≡ counted_in old
     → new ≡ record counted-old { windows = record counted-old.windows { picture = new.windows.picture } }
@@ -130,7 +138,9 @@ snap-item takes out item piece old counted-old new frames is one same sides pain
             windows = picture-rest setup counted-old.windows new.windows frames (count_item state) drawn sides rests.windows;
             seated = record { same = rests.seated.same ∙ sym (ap (λ (d : DeskView). d.seat) same); settled = rests.seated.settled };
           };
-      posts = λ setup state stands. refl;
+      posts = λ setup state stands.
+          let L : List Post → Type 0 = λ ps. Leads takes out ps out in
+          subst L (sym (pictures-none setup state.scene.rows state.scene.layers setup.outputs)) refl;
       drawn = λ snap setup state stands. pixels setup frames (count_item state) (after setup state stands).windows;
       painted = λ setup state stands.
           let n = (after setup state stands).windows.with_rest.numbers in

@@ -1,6 +1,7 @@
 -- A unit that ended nothing, from the definitions to the part.
 use Rattle.std.proofs.Common.{◌≡◌, ℕ, ◌+◌, ◌/◌, ◌%◌, Bool, true, false, ◌==◌, length, drop, take, ◌≤◌, List, ◌++◌, Option, Some, None, refl, sym, ◌∙◌, ap, subst}
 use Rattle.std.specs.Prelude.{if◌then◌else◌, nat_lt}
+use Rattle.gui_wire.specs.AgentMessages.{AgentMessage, reading}
 use Rattle.gui_wire.specs.Words.{word_at}
 use Rattle.gui_wire.specs.Headers.{header_at}
 use Rattle.gui_wire.specs.declared.Header.{Header}
@@ -11,6 +12,7 @@ use Rattle.desk_laws.specs.declared.setup.Setup.{Setup}
 use Rattle.desk_laws.specs.Sizes.{Sizes, sizes_of}
 use Rattle.desk_laws.specs.Stream as stream
 use Rattle.desk_laws.specs.Stream.{StreamUnit, Word, Stop, Whole, Front, Fault, Takes, front, front_of, head_fault, front_by, Cut, cut, is_greeting}
+use Rattle.desk_laws.specs.Clipboard.{Clip}
 use Rattle.desk_laws.specs.Rows.{Row, mine, row_with}
 use Rattle.desk_laws.specs.Layers.{Layers}
 use Rattle.desk_laws.specs.Frames.{PortState, counted}
@@ -19,7 +21,7 @@ use Rattle.desk_laws.specs.Following.{ChangesOne, after_row}
 use Rattle.desk_laws.specs.Scene.{Post, replies}
 use Rattle.desk_laws.specs.State.{DeskState, StepOutcome, session_of, stays, step_after}
 use Rattle.desk_laws.specs.Settle.{IsSettled}
-use Rattle.desk_laws.specs.Steps.{take_unit, take_units, unit_done, unit_told, messages_of}
+use Rattle.desk_laws.specs.Steps.{clip_after, clip_of_unit, take_unit, take_units, unit_done, unit_told, messages_of}
 use Rattle.desk_laws.proofs.ChangeLemmas.{messages-change_one}
 use Rattle.desk_laws.proofs.Cutting.{front_by-append, front_by-whole_header, takes-whole_header}
 use Rattle.desk_laws.proofs.CuttingLemmas.{cut-takes, front-greets}
@@ -28,6 +30,8 @@ use Rattle.io_ports.specs.Posts.{Leads}
 use Rattle.guest_session.specs.declared.turn.Turn.{Turn}
 use Rattle.guest_session.specs.declared.turn.Turn.TheVariants as turns
 use Rattle.guest_session.specs.SessionView.{SessionView, AreRows}
+use Rattle.clipboard_gate.specs.Kept.{GateView, keeping}
+use Rattle.guest_session.specs.Clips.{is_clip}
 use Rattle.guest_session.specs.Turns.{HadEffect, window_of}
 use Rattle.desk_core.specs.WindowsView.{PartView}
 use Rattle.desk_core.specs.DeskPosts.{guest_posts}
@@ -42,7 +46,7 @@ use Rattle.desk_core.proofs.LeaveLemmas.{leaves-all, told-leaves, unit-leaves}
 use Rattle.desk_core.proofs.OwnRows.{IsOwnEffect, own-effect}
 use Rattle.desk_core.proofs.PostLemmas.{guest-replies}
 use Rattle.desk_core.proofs.SettlingLemmas.{silent-after, went-settles}
-use Rattle.desk_core.proofs.StandLemmas.{went_told, moved, HadUnit, HadLists, AreCounted, unread-with, went-stands, went-rest, lists-after}
+use Rattle.desk_core.proofs.StandLemmas.{went_told, moved, HadUnit, HadLists, HadClip, AreCounted, unread-with, went-stands, went-rest, lists-after}
 
 -- ---- nothing was taken
 
@@ -115,24 +119,24 @@ effect-own setup guest held part port state v stands going =
     ∙ ap (λ g. carried_out g s.minor s.rows port v) (sym stands.owner)) own
 
 -- a unit that went, with this verdict
-pub went-took : {O : Type 0} (takes : O → Post → O → Type 0) (out out' : O) (answer : Told) (setup : Setup) (guest : ℕ) (held behind : List ℕ) (part : PartView) (new : SessionView) (layers : Layers) (messages glances : ℕ) (port port' : PortState) (state : DeskState) (unit : StreamUnit) (v : Verdict) (answers : List (List ℕ))
+pub went-took : {O : Type 0} (takes : O → Post → O → Type 0) (out out' : O) (answer : Told) (setup : Setup) (guest : ℕ) (held behind : List ℕ) (part : PartView) (new : SessionView) (layers : Layers) (gate : GateView) (messages glances : ℕ) (port port' : PortState) (state : DeskState) (unit : StreamUnit) (v : Verdict) (answers : List (List ℕ))
     → PartStands setup guest held part port state → part.session.ended ≡ None → front part.session.stream.greeted held ≡ Takes unit behind
     → verdict part.session.sizes part.session.guest part.session.minor part.session.rows unit ≡ v
     → (effect_of guest state v).cause ≡ None → (effect_of guest state v).answers ≡ answers
-    → HadUnit guest unit (effect_of guest state v) part.session new port' behind → AreRows guest new.rows → HadLists (effect_of guest state v).rows part.layers layers
+    → HadUnit guest unit (effect_of guest state v) part.session new port' behind → AreRows guest new.rows → HadLists (effect_of guest state v).rows part.layers layers → HadClip guest unit part.gate gate
     → AreCounted unit (effect_of guest state v) part messages glances → new.stream.greeted ≡ true → Leads takes out (replies guest answers) out'
-    → (moves answer ≡ false → IsSettled (sizes_of setup) state.scene → IsSettled (sizes_of setup) (unit_told guest unit (effect_of guest state v) state.scene).scene)
-    → TookTold takes out out' answer setup guest held part (moved new layers messages glances) port' state
-went-took takes out out' answer setup guest held behind part new layers messages glances port port' state unit v answers stands going is v_is none answered had own lists counts greeted told still =
+    → (moves answer ≡ false → IsSettled (sizes_of setup) state.scene → IsSettled (sizes_of setup) (unit_told (sizes_of setup).clip_limit guest unit (effect_of guest state v) state.scene).scene)
+    → TookTold takes out out' answer setup guest held part (moved new layers gate messages glances) port' state
+went-took takes out out' answer setup guest held behind part new layers gate messages glances port port' state unit v answers stands going is v_is none answered had own lists clip counts greeted told still =
     let e = effect_of guest state v in
-    let last = moved new layers messages glances in
-    let taken : take_unit setup guest unit state ≡ settled_after setup (went_told guest unit e state) =
+    let last = moved new layers gate messages glances in
+    let taken : take_unit setup guest unit state ≡ settled_after setup (went_told setup guest unit e state) =
     taken-by setup guest unit state v (stands.ended ∙ going) (verdict-same setup guest held part port state unit stands going ∙ v_is)
     ∙ ap (λ c. unit_done setup guest unit e c state) none ∙ went-settles setup guest unit e state in
     let Q : List (List ℕ) → Type 0 = λ xs. Leads takes out (guest_posts (replies guest xs)) out' in
     let R : List Post → Type 0 = λ ps. Leads takes out ps out' in
-    unit-told takes out out' answer setup guest held behind part last port' state unit (went_told guest unit e state) going is greeted taken
-    (went-stands setup guest held behind part new layers messages glances port port' state unit e stands going had own lists counts, subst Q (sym answered) (subst R (sym (guest-replies guest answers)) told))
+    unit-told takes out out' answer setup guest held behind part last port' state unit (went_told setup guest unit e state) going is greeted taken
+    (went-stands setup guest held behind part new layers gate messages glances port port' state unit e stands going had own lists clip counts, subst Q (sym answered) (subst R (sym (guest-replies guest answers)) told))
     (went-rest setup guest held part port state unit e stands) still refl
 
 -- a unit with this verdict changes the row of its own window alone
@@ -181,20 +185,59 @@ drawn_in turns.ClipWhole = None
 drawn_in turns.ClipOver = None
 drawn_in (turns.Ended cause) = None
 
+either : (P : Option AgentMessage → Type 0) (b : Bool) (x y : Option AgentMessage) → P x → P y → P (if b then x else y)
+either P true x y one other = one
+either P false x y one other = other
+
+unless : (P : Option AgentMessage → Type 0) (b : Bool) (x y : Option AgentMessage) → b ≡ false → P y → P (if b then x else y)
+unless P true x y no_other other = cc
+unless P false x y no_other other = other
+
+-- a message that isn't clipboard data leaves the clipboard
+clip-left : (limit guest kind : ℕ) (body : List ℕ) (clip : Clip) → (kind == 140) ≡ false → clip_after limit guest (reading kind body) clip ≡ clip
+clip-left limit guest kind body clip other =
+    let P : Option AgentMessage → Type 0 = λ m. clip_after limit guest m clip ≡ clip in
+    either P (kind == 130) _ _ refl
+    (either P (kind == 131) _ _ refl
+    (either P (kind == 132) _ _ refl
+    (either P (kind == 133) _ _ refl
+    (either P (kind == 134) _ _ refl
+    (either P (kind == 136) _ _ refl
+    (unless P (kind == 140) _ _ other
+    (either P (kind == 141) _ _ refl
+    (either P (kind == 143) _ _ refl
+    (either P (kind == 144) _ _ refl
+    (either P (kind == 145) _ _ refl
+    (either P (kind == 146) _ _ refl
+    (either P (kind == 147) _ _ refl
+    (either P (kind == 148) _ _ refl refl)))))))))))))
+
+-- a unit that isn't clipboard data leaves the clipboard, and so the store that holds it
+no-clip : (guest : ℕ) (unit : StreamUnit) (gate : GateView) (limit : ℕ) (clip : Clip) → is_clip unit ≡ false → gate ≡ keeping limit clip → HadClip guest unit gate gate
+no-clip guest unit gate limit clip other is =
+    is
+    ∙ ap (keeping limit) (sym (left unit other))
+    ∙ ap (λ (g : GateView). keeping g.limit (clip_of_unit g.limit guest unit g.clip)) (sym is)
+  where
+    left : (unit : StreamUnit) → is_clip unit ≡ false → clip_of_unit limit guest unit clip ≡ clip
+    left (Word word) other = refl
+    left (Stop cause) other = refl
+    left (Whole header body) other = clip-left limit guest header.kind body clip other
+
 -- a unit whose effect the session had, where this was read
 pub effect-took : {O : Type 0} (takes : O → Post → O → Type 0) (out out' : O) (answer : Told) (setup : Setup) (guest : ℕ) (held behind : List ℕ) (part : PartView) (new : SessionView) (window : ℕ) (drawn read : Option Rect) (layers : Layers) (messages glances : ℕ) (port port' : PortState) (state : DeskState)
     (unit : StreamUnit) (v : Verdict) (e : Effect) (change : Change)
     → PartStands setup guest held part port state → part.session.ended ≡ None → front part.session.stream.greeted held ≡ Takes unit behind
-    → HadEffect takes out out' port' part.session new (turns.Changed window drawn) (window_of unit) read e behind
+    → is_clip unit ≡ false → HadEffect takes out out' port' part.session new (turns.Changed window drawn) (window_of unit) read e behind
     → verdict part.session.sizes part.session.guest part.session.minor part.session.rows unit ≡ v
     → carried_out part.session.guest part.session.minor part.session.rows port v ≡ e
     → e.cause ≡ None → (effect_of guest state v).rows ≡ changed guest change state.scene.rows → length e.readings ≡ glances_in read
     → ChangesOne (window_of unit) part.session.rows change
     → AreRows guest new.rows → layers ≡ after_row (id_in guest window) (row_with window new.rows) part.layers
     → messages ≡ counted (part.messages + (if part.session.stream.greeted then 1 else 0)) → glances ≡ counted (part.glances + glances_in drawn)
-    → (moves answer ≡ false → IsSettled (sizes_of setup) state.scene → IsSettled (sizes_of setup) (unit_told guest unit (effect_of guest state v) state.scene).scene)
-    → TookTold takes out out' answer setup guest held part (moved new layers messages glances) port' state
-effect-took takes out out' answer setup guest held behind part new window drawn read layers messages glances port port' state unit v e change stands going is had v_is e_is none rows_is many one own made count seen still =
+    → (moves answer ≡ false → IsSettled (sizes_of setup) state.scene → IsSettled (sizes_of setup) (unit_told (sizes_of setup).clip_limit guest unit (effect_of guest state v) state.scene).scene)
+    → TookTold takes out out' answer setup guest held part (moved new layers part.gate messages glances) port' state
+effect-took takes out out' answer setup guest held behind part new window drawn read layers messages glances port port' state unit v e change stands going is other had v_is e_is none rows_is many one own made count seen still =
     let s = part.session in
     let E : Effect → Type 0 = λ x. IsOwnEffect guest (effect_of guest state v) x in
     let same : IsOwnEffect guest (effect_of guest state v) e = subst E e_is (effect-own setup guest held part port state v stands going) in
@@ -206,7 +249,7 @@ effect-took takes out out' answer setup guest held behind part new window drawn 
     let T : ℕ → Type 0 = λ g. Leads takes out (replies g e.answers) out' in
     let looked : glances_in drawn ≡ length (effect_of guest state v).readings =
     ap glances_in (ap drawn_in had.answer) ∙ sym many ∙ ap length (sym same.readings) in
-    went-took takes out out' answer setup guest held behind part new layers messages glances port port' state unit v e.answers stands going is v_is
+    went-took takes out out' answer setup guest held behind part new layers part.gate messages glances port port' state unit v e.answers stands going is v_is
     (same.cause ∙ none) same.answers
     (record {
       rows = same.rows ∙ sym new_rows;
@@ -220,6 +263,7 @@ effect-took takes out out' answer setup guest held behind part new window drawn 
     })
     own
     (lists-after guest state.scene.rows (effect_of guest state v).rows new.rows part.layers layers window change stands.apart rows_is (same.rows ∙ sym new_rows) stands.followed one' made)
+    (no-clip guest unit part.gate (sizes_of setup).clip_limit state.scene.clip other stands.gate)
     (record {
       told = count ∙ ap (λ n. counted (part.messages + n)) (counted-unit s.stream.greeted held behind unit is);
       read = seen ∙ ap (λ n. counted (part.glances + n)) looked;

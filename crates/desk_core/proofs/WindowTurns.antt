@@ -3,18 +3,22 @@ use Rattle.std.proofs.Common.{◌≡◌, ℕ, ◌+◌, ◌≤◌, ◌<◌, List,
 use Rattle.std.specs.Prelude.{if◌then◌else◌}
 use Rattle.std.proofs.lemmas.List.{get_or_default}
 use Rattle.gui_num.specs.declared.Rect.{Rect}
+use Rattle.gui_wire.specs.declared.Header.{Header}
 use Rattle.desk_laws.specs.declared.cause.Cause.{Cause}
 use Rattle.desk_laws.specs.declared.setup.Setup.{Setup}
 use Rattle.desk_laws.specs.Following.{without_guest}
 use Rattle.desk_laws.specs.Frames.{PortState, counted}
+use Rattle.desk_laws.specs.Clipboard.{give}
 use Rattle.desk_laws.specs.Layers.{Layers}
 use Rattle.desk_laws.specs.Rows.{row_with}
 use Rattle.desk_laws.specs.Scene.{Post, Ended}
 use Rattle.desk_laws.specs.State.{DeskState}
 use Rattle.in_stream.specs.Taking.{DropsUnit}
+use Rattle.clipboard_gate.specs.Kept.{GateView, keeping}
 use Rattle.guest_session.specs.declared.turn.Turn.{Turn}
 use Rattle.guest_session.specs.declared.turn.Turn.TheVariants as turns
-use Rattle.guest_session.specs.Clips.{HasClip}
+use Rattle.guest_session.specs.Clips.{BeginsWithClip, HasClip, HasKeptClip}
+use Rattle.guest_session.specs.Turns.{clip_turn}
 use Rattle.guest_session.specs.SessionView.{SessionView, HasRows, with_stream}
 use Rattle.desk_core.specs.declared.windows.Told.{Told}
 use Rattle.desk_core.specs.declared.windows.Told.TheVariants as answers
@@ -25,10 +29,11 @@ use Rattle.desk_core.specs.Kept.{IsKept}
 use Rattle.desk_core.specs.Pieces.{Drained, held_by}
 use Rattle.desk_core.specs.Stacked.{id_in, layer_in, after_layer}
 use Rattle.desk_core.proofs.ClipTurns.{IsClipTurn}
+use Rattle.desk_core.proofs.EndStands.{Forgets}
 use Rattle.desk_core.proofs.JoinLemmas.{part-alone, part-in}
 use Rattle.desk_core.proofs.KeptLemmas.{kept-part, room-for, state-at, told-kept}
 use Rattle.desk_core.proofs.StandLemmas.{moved}
-use Rattle.desk_core.proofs.TurnExits.{Turned, Over, IsBusy, exit-changed, exit-clip, exit-clip_fewer, exit-ended, exit-fewer, exit-has_clip, exit-drained, exit-over, exit-stays, exit-waits}
+use Rattle.desk_core.proofs.TurnExits.{Turned, Over, IsBusy, exit-changed, exit-clip, exit-clip_fewer, exit-ended, exit-fewer, exit-has_clip, exit-has_kept, exit-drained, exit-over, exit-stays, exit-waits}
 
 -- the session at a guest's place
 pub session-at : (desk : WindowsView) (guest : ℕ) (s : SessionView) → guest < guests_of desk → s ≡ get_or desk.sessions guest s → s ≡ session_in guest desk
@@ -128,26 +133,26 @@ module _ {O : Type 0} (takes : O → Post → O → Type 0) (out mid : O) (guest
 module _ {O : Type 0} (takes : O → Post → O → Type 0) (out mid : O) (guest : ℕ) (old now : WindowsView) (room : ℕ) (is : old ≡ now) (there_now : guest < guests_of now) (kept : IsKept room old)
     (s new : SessionView) (at : s ≡ get_or old.sessions guest s) (frames frames' : ℕ → PortState)
     (turned : Turned takes out mid (frames s.guest) (frames' s.guest) s new turns.Wait) (over : Over out mid (frames s.guest) (frames' s.guest) s new turns.Wait) where
-  waited : (setup : Setup) (held : List ℕ) (st : DeskState) → PartStands setup guest held (part_of guest old) (frames guest) st → TookTold takes out mid answers.Waits setup guest held (part_of guest old) (moved new old.layers old.messages old.glances) (frames' guest) st
+  waited : (setup : Setup) (held : List ℕ) (st : DeskState) → PartStands setup guest held (part_of guest old) (frames guest) st → TookTold takes out mid answers.Waits setup guest held (part_of guest old) (moved new old.layers old.gate old.messages old.glances) (frames' guest) st
   waited setup held st stands = exit-stays takes out mid setup guest held (part_of guest old) new (frames guest) (frames' guest) st stands (turned' takes out mid guest old now room is there_now kept s new at frames frames' turns.Wait turned over) (over' takes out mid guest old now room is there_now kept s new at frames frames' turns.Wait turned over)
 
-  pub wait-kept : IsKept room (with_part guest (moved new old.layers old.messages old.glances) old)
-  wait-kept = took-keeps takes out mid guest old now room is there_now kept s new at frames frames' turns.Wait turned over mid answers.Waits (moved new old.layers old.messages old.glances) waited
+  pub wait-kept : IsKept room (with_part guest (moved new old.layers old.gate old.messages old.glances) old)
+  wait-kept = took-keeps takes out mid guest old now room is there_now kept s new at frames frames' turns.Wait turned over mid answers.Waits (moved new old.layers old.gate old.messages old.glances) waited
 
   pub wait-took : (setup : Setup) (held : List ℕ) (st : DeskState) → PartStands setup guest held (part_of guest now) (frames guest) st
-      → TookTold takes out mid answers.Waits setup guest held (part_of guest now) (part_of guest (with_part guest (moved new old.layers old.messages old.glances) old)) (frames' guest) st
-  wait-took = took-now takes out mid guest old now room is there_now kept s new at frames frames' turns.Wait turned over mid answers.Waits (moved new old.layers old.messages old.glances) waited
+      → TookTold takes out mid answers.Waits setup guest held (part_of guest now) (part_of guest (with_part guest (moved new old.layers old.gate old.messages old.glances) old)) (frames' guest) st
+  wait-took = took-now takes out mid guest old now room is there_now kept s new at frames frames' turns.Wait turned over mid answers.Waits (moved new old.layers old.gate old.messages old.glances) waited
 
-  pub wait-alone : ChangesPart guest now (with_part guest (moved new old.layers old.messages old.glances) old)
-  wait-alone = took-alone takes out mid guest old now room is there_now kept s new at frames frames' turns.Wait turned over mid answers.Waits (moved new old.layers old.messages old.glances) waited
+  pub wait-alone : ChangesPart guest now (with_part guest (moved new old.layers old.gate old.messages old.glances) old)
+  wait-alone = took-alone takes out mid guest old now room is there_now kept s new at frames frames' turns.Wait turned over mid answers.Waits (moved new old.layers old.gate old.messages old.glances) waited
 
-  pub wait-drained : Drained (session_in guest (with_part guest (moved new old.layers old.messages old.glances) old))
+  pub wait-drained : Drained (session_in guest (with_part guest (moved new old.layers old.gate old.messages old.glances) old))
   wait-drained =
       let stood' = stood takes out mid guest old now room is there_now kept s new at frames frames' turns.Wait turned over in
       let st = state takes out mid guest old now room is there_now kept s new at frames frames' turns.Wait turned over in
       let same = (exit-waits takes out mid kept.setup guest (kept.held guest) (part_of guest old) new (frames guest) (frames' guest) st stood' (turned' takes out mid guest old now room is there_now kept s new at frames frames' turns.Wait turned over) (over' takes out mid guest old now room is there_now kept s new at frames frames' turns.Wait turned over)).0 in
       let P : SessionView → Type 0 = λ x. Drained x in
-      drained-in guest old now is (there takes out mid guest old now room is there_now kept s new at frames frames' turns.Wait turned over) (moved new old.layers old.messages old.glances)
+      drained-in guest old now is (there takes out mid guest old now room is there_now kept s new at frames frames' turns.Wait turned over) (moved new old.layers old.gate old.messages old.glances)
       (subst P (sym same) (exit-drained takes out mid kept.setup guest (kept.held guest) (part_of guest old) new (frames guest) (frames' guest) st stood' (turned' takes out mid guest old now room is there_now kept s new at frames frames' turns.Wait turned over) (over' takes out mid guest old now room is there_now kept s new at frames frames' turns.Wait turned over)))
 
 -- ---- a message or the version word
@@ -157,7 +162,7 @@ module _ {O : Type 0} (takes : O → Post → O → Type 0) (out mid : O) (guest
     (turned : Turned takes out mid (frames s.guest) (frames' s.guest) s new (turns.Changed window drawn)) (over : Over out mid (frames s.guest) (frames' s.guest) s new (turns.Changed window drawn)) where
   changed-all : (layer : Option Bool) (layers : Layers) (messages glances : ℕ) → HasRows new → layer ≡ layer_in (row_with window new.rows) → layers ≡ after_layer (id_in guest window) layer old.layers
       → messages ≡ counted (old.messages + (if (session_in guest old).stream.greeted then 1 else 0)) → glances ≡ counted (old.glances + glances_in drawn)
-      → (setup : Setup) (held : List ℕ) (st : DeskState) → PartStands setup guest held (part_of guest old) (frames guest) st → TookTold takes out mid (answer_of drawn) setup guest held (part_of guest old) (moved new layers messages glances) (frames' guest) st
+      → (setup : Setup) (held : List ℕ) (st : DeskState) → PartStands setup guest held (part_of guest old) (frames guest) st → TookTold takes out mid (answer_of drawn) setup guest held (part_of guest old) (moved new layers old.gate messages glances) (frames' guest) st
   changed-all layer layers messages glances own in_layer made count seen setup held st stands =
       exit-changed takes out mid setup guest held (part_of guest old) new (frames guest) (frames' guest) st stands window drawn layer layers messages glances (turned' takes out mid guest old now room is there_now kept s new at frames frames' (turns.Changed window drawn) turned over) (over' takes out mid guest old now room is there_now kept s new at frames frames' (turns.Changed window drawn) turned over) own in_layer made count seen
 
@@ -167,11 +172,11 @@ module _ {O : Type 0} (takes : O → Post → O → Type 0) (out mid : O) (guest
       let layers = after_layer (id_in guest window) layer old.layers in
       let messages = counted (old.messages + (if (session_in guest old).stream.greeted then 1 else 0)) in
       let glances = counted (old.glances + glances_in drawn) in
-      room-for room (with_part guest (moved new layers messages glances) old) (took-keeps takes out mid guest old now room is there_now kept s new at frames frames' (turns.Changed window drawn) turned over mid (answer_of drawn) (moved new layers messages glances) (changed-all layer layers messages glances own in_layer refl refl refl))
+      room-for room (with_part guest (moved new layers old.gate messages glances) old) (took-keeps takes out mid guest old now room is there_now kept s new at frames frames' (turns.Changed window drawn) turned over mid (answer_of drawn) (moved new layers old.gate messages glances) (changed-all layer layers messages glances own in_layer refl refl refl))
 
-  pub changed-fewer : (layers : Layers) (messages glances : ℕ) → held_by (session_in guest (with_part guest (moved new layers messages glances) old)) < held_by (session_in guest now)
+  pub changed-fewer : (layers : Layers) (messages glances : ℕ) → held_by (session_in guest (with_part guest (moved new layers old.gate messages glances) old)) < held_by (session_in guest now)
   changed-fewer layers messages glances =
-      fewer-in guest old now is (there takes out mid guest old now room is there_now kept s new at frames frames' (turns.Changed window drawn) turned over) (moved new layers messages glances)
+      fewer-in guest old now is (there takes out mid guest old now room is there_now kept s new at frames frames' (turns.Changed window drawn) turned over) (moved new layers old.gate messages glances)
       (exit-fewer takes out mid kept.setup guest (kept.held guest) (part_of guest old) new (frames guest) (frames' guest) (state takes out mid guest old now room is there_now kept s new at frames frames' (turns.Changed window drawn) turned over) (stood takes out mid guest old now room is there_now kept s new at frames frames' (turns.Changed window drawn) turned over) window drawn (turned' takes out mid guest old now room is there_now kept s new at frames frames' (turns.Changed window drawn) turned over) (over' takes out mid guest old now room is there_now kept s new at frames frames' (turns.Changed window drawn) turned over))
 
   module _ (greeted : Bool) (layer : Option Bool) (layers : Layers) (messages glances : ℕ) (own : HasRows new) (in_layer : layer ≡ layer_in (row_with window new.rows)) (made : layers ≡ after_layer (id_in guest window) layer old.layers)
@@ -179,15 +184,15 @@ module _ {O : Type 0} (takes : O → Post → O → Type 0) (out mid : O) (guest
     counts : messages ≡ counted (old.messages + (if (session_in guest old).stream.greeted then 1 else 0))
     counts = count ∙ ap (λ b. counted (old.messages + (if b then 1 else 0))) (same ∙ ap (λ (x : SessionView). x.stream.greeted) (session-at old guest s (there takes out mid guest old now room is there_now kept s new at frames frames' (turns.Changed window drawn) turned over) at))
 
-    pub changed-kept : IsKept room (with_part guest (moved new layers messages glances) old)
-    changed-kept = took-keeps takes out mid guest old now room is there_now kept s new at frames frames' (turns.Changed window drawn) turned over mid (answer_of drawn) (moved new layers messages glances) (changed-all layer layers messages glances own in_layer made counts seen)
+    pub changed-kept : IsKept room (with_part guest (moved new layers old.gate messages glances) old)
+    changed-kept = took-keeps takes out mid guest old now room is there_now kept s new at frames frames' (turns.Changed window drawn) turned over mid (answer_of drawn) (moved new layers old.gate messages glances) (changed-all layer layers messages glances own in_layer made counts seen)
 
     pub changed-took : (setup : Setup) (held : List ℕ) (st : DeskState) → PartStands setup guest held (part_of guest now) (frames guest) st
-        → TookTold takes out mid (answer_of drawn) setup guest held (part_of guest now) (part_of guest (with_part guest (moved new layers messages glances) old)) (frames' guest) st
-    changed-took = took-now takes out mid guest old now room is there_now kept s new at frames frames' (turns.Changed window drawn) turned over mid (answer_of drawn) (moved new layers messages glances) (changed-all layer layers messages glances own in_layer made counts seen)
+        → TookTold takes out mid (answer_of drawn) setup guest held (part_of guest now) (part_of guest (with_part guest (moved new layers old.gate messages glances) old)) (frames' guest) st
+    changed-took = took-now takes out mid guest old now room is there_now kept s new at frames frames' (turns.Changed window drawn) turned over mid (answer_of drawn) (moved new layers old.gate messages glances) (changed-all layer layers messages glances own in_layer made counts seen)
 
-    pub changed-alone : ChangesPart guest now (with_part guest (moved new layers messages glances) old)
-    changed-alone = took-alone takes out mid guest old now room is there_now kept s new at frames frames' (turns.Changed window drawn) turned over mid (answer_of drawn) (moved new layers messages glances) (changed-all layer layers messages glances own in_layer made counts seen)
+    pub changed-alone : ChangesPart guest now (with_part guest (moved new layers old.gate messages glances) old)
+    changed-alone = took-alone takes out mid guest old now room is there_now kept s new at frames frames' (turns.Changed window drawn) turned over mid (answer_of drawn) (moved new layers old.gate messages glances) (changed-all layer layers messages glances own in_layer made counts seen)
 
 -- ---- clipboard data
 
@@ -197,45 +202,55 @@ module _ {O : Type 0} (takes : O → Post → O → Type 0) (out mid : O) (guest
   pub clip-there : HasClip new.stream
   clip-there = exit-has_clip takes out mid kept.setup guest (kept.held guest) (part_of guest old) new (frames guest) (frames' guest) (state takes out mid guest old now room is there_now kept s new at frames frames' turn turned over) (stood takes out mid guest old now room is there_now kept s new at frames frames' turn turned over) turn clip.0 clip.1 (turned' takes out mid guest old now room is there_now kept s new at frames frames' turn turned over) (over' takes out mid guest old now room is there_now kept s new at frames frames' turn turned over)
 
-  module _ (last : SessionView) (messages : ℕ) (same : last ≡ with_stream last.stream new) (drops : DropsUnit new.stream last.stream) (greeted : last.stream.greeted ≡ true) (count : messages ≡ counted (old.messages + 1)) where
-    clipped : (setup : Setup) (held : List ℕ) (st : DeskState) → PartStands setup guest held (part_of guest old) (frames guest) st → TookTold takes out mid answers.Changed setup guest held (part_of guest old) (moved last old.layers messages old.glances) (frames' guest) st
+  module _ (last : SessionView) (gate : GateView) (messages : ℕ) (same : last ≡ with_stream last.stream new) (drops : DropsUnit new.stream last.stream) (greeted : last.stream.greeted ≡ true)
+      (given : (header : Header) (body : List ℕ) → BeginsWithClip new.stream header body → turn ≡ clip_turn old.gate.limit body → gate ≡ keeping old.gate.limit (give old.gate.limit guest body old.gate.clip)) (count : messages ≡ counted (old.messages + 1)) where
+    clipped : (setup : Setup) (held : List ℕ) (st : DeskState) → PartStands setup guest held (part_of guest old) (frames guest) st → TookTold takes out mid answers.Changed setup guest held (part_of guest old) (moved last old.layers gate messages old.glances) (frames' guest) st
     clipped setup held st stands =
-        exit-clip takes out mid setup guest held (part_of guest old) new (frames guest) (frames' guest) st stands turn last messages clip.0 clip.1 (turned' takes out mid guest old now room is there_now kept s new at frames frames' turn turned over) (over' takes out mid guest old now room is there_now kept s new at frames frames' turn turned over) same drops greeted count
+        exit-clip takes out mid setup guest held (part_of guest old) new (frames guest) (frames' guest) st stands turn last gate messages clip.0 clip.1 (turned' takes out mid guest old now room is there_now kept s new at frames frames' turn turned over) (over' takes out mid guest old now room is there_now kept s new at frames frames' turn turned over) same drops greeted given count
 
-    pub clip-kept : IsKept room (with_part guest (moved last old.layers messages old.glances) old)
-    clip-kept = took-keeps takes out mid guest old now room is there_now kept s new at frames frames' turn turned over mid answers.Changed (moved last old.layers messages old.glances) clipped
+    pub clip-kept : IsKept room (with_part guest (moved last old.layers gate messages old.glances) old)
+    clip-kept = took-keeps takes out mid guest old now room is there_now kept s new at frames frames' turn turned over mid answers.Changed (moved last old.layers gate messages old.glances) clipped
 
     pub clip-took : (setup : Setup) (held : List ℕ) (st : DeskState) → PartStands setup guest held (part_of guest now) (frames guest) st
-        → TookTold takes out mid answers.Changed setup guest held (part_of guest now) (part_of guest (with_part guest (moved last old.layers messages old.glances) old)) (frames' guest) st
-    clip-took = took-now takes out mid guest old now room is there_now kept s new at frames frames' turn turned over mid answers.Changed (moved last old.layers messages old.glances) clipped
+        → TookTold takes out mid answers.Changed setup guest held (part_of guest now) (part_of guest (with_part guest (moved last old.layers gate messages old.glances) old)) (frames' guest) st
+    clip-took = took-now takes out mid guest old now room is there_now kept s new at frames frames' turn turned over mid answers.Changed (moved last old.layers gate messages old.glances) clipped
 
-    pub clip-alone : ChangesPart guest now (with_part guest (moved last old.layers messages old.glances) old)
-    clip-alone = took-alone takes out mid guest old now room is there_now kept s new at frames frames' turn turned over mid answers.Changed (moved last old.layers messages old.glances) clipped
+    pub clip-alone : ChangesPart guest now (with_part guest (moved last old.layers gate messages old.glances) old)
+    clip-alone = took-alone takes out mid guest old now room is there_now kept s new at frames frames' turn turned over mid answers.Changed (moved last old.layers gate messages old.glances) clipped
 
-    pub clip-fewer : held_by (session_in guest (with_part guest (moved last old.layers messages old.glances) old)) < held_by (session_in guest now)
+    pub clip-fewer : held_by (session_in guest (with_part guest (moved last old.layers gate messages old.glances) old)) < held_by (session_in guest now)
     clip-fewer =
-        fewer-in guest old now is (there takes out mid guest old now room is there_now kept s new at frames frames' turn turned over) (moved last old.layers messages old.glances)
+        fewer-in guest old now is (there takes out mid guest old now room is there_now kept s new at frames frames' turn turned over) (moved last old.layers gate messages old.glances)
         (exit-clip_fewer takes out mid kept.setup guest (kept.held guest) (part_of guest old) new (frames guest) (frames' guest) (state takes out mid guest old now room is there_now kept s new at frames frames' turn turned over) (stood takes out mid guest old now room is there_now kept s new at frames frames' turn turned over) turn last clip.0 clip.1 (turned' takes out mid guest old now room is there_now kept s new at frames frames' turn turned over) (over' takes out mid guest old now room is there_now kept s new at frames frames' turn turned over) drops)
+
+-- data that is kept is there
+pub whole-there : {O : Type 0} (takes : O → Post → O → Type 0) (out mid : O) (guest : ℕ) (old now : WindowsView) (room : ℕ) → old ≡ now → guest < guests_of now → IsKept room old
+    → (s new : SessionView) → s ≡ get_or old.sessions guest s → (frames frames' : ℕ → PortState)
+    → Turned takes out mid (frames s.guest) (frames' s.guest) s new turns.ClipWhole → Over out mid (frames s.guest) (frames' s.guest) s new turns.ClipWhole → HasKeptClip new.sizes.clip_limit new.stream
+whole-there takes out mid guest old now room is there_now kept s new at frames frames' turned over =
+    exit-has_kept takes out mid kept.setup guest (kept.held guest) (part_of guest old) new (frames guest) (frames' guest)
+    (state takes out mid guest old now room is there_now kept s new at frames frames' turns.ClipWhole turned over) (stood takes out mid guest old now room is there_now kept s new at frames frames' turns.ClipWhole turned over)
+    (turned' takes out mid guest old now room is there_now kept s new at frames frames' turns.ClipWhole turned over) (over' takes out mid guest old now room is there_now kept s new at frames frames' turns.ClipWhole turned over)
 
 -- ---- the end of the session
 
 module _ {O : Type 0} (takes : O → Post → O → Type 0) (out mid : O) (guest : ℕ) (old now : WindowsView) (room : ℕ) (is : old ≡ now) (there_now : guest < guests_of now) (kept : IsKept room old)
-    (s new : SessionView) (at : s ≡ get_or old.sessions guest s) (frames frames' : ℕ → PortState) (cause : Cause) (last : O) (told : takes mid (Ended guest cause) last)
+    (s new : SessionView) (at : s ≡ get_or old.sessions guest s) (frames frames' : ℕ → PortState) (gate : GateView) (forgotten : Forgets guest old.gate gate) (cause : Cause) (last : O) (told : takes mid (Ended guest cause) last)
     (turned : Turned takes out mid (frames s.guest) (frames' s.guest) s new (turns.Ended cause)) (over : Over out mid (frames s.guest) (frames' s.guest) s new (turns.Ended cause)) where
-  over-took : (setup : Setup) (held : List ℕ) (st : DeskState) → PartStands setup guest held (part_of guest old) (frames guest) st → TookTold takes out last answers.Ended setup guest held (part_of guest old) (moved new (without_guest guest old.layers) old.messages old.glances) (frames' guest) st
-  over-took setup held st stands = exit-ended takes out mid setup guest held (part_of guest old) new (frames guest) (frames' guest) st stands last cause (turned' takes out mid guest old now room is there_now kept s new at frames frames' (turns.Ended cause) turned over) (over' takes out mid guest old now room is there_now kept s new at frames frames' (turns.Ended cause) turned over) told
+  over-took : (setup : Setup) (held : List ℕ) (st : DeskState) → PartStands setup guest held (part_of guest old) (frames guest) st → TookTold takes out last answers.Ended setup guest held (part_of guest old) (moved new (without_guest guest old.layers) gate old.messages old.glances) (frames' guest) st
+  over-took setup held st stands = exit-ended takes out mid setup guest held (part_of guest old) new (frames guest) (frames' guest) st stands last gate cause forgotten (turned' takes out mid guest old now room is there_now kept s new at frames frames' (turns.Ended cause) turned over) (over' takes out mid guest old now room is there_now kept s new at frames frames' (turns.Ended cause) turned over) told
 
-  pub ended-kept : IsKept room (with_part guest (moved new (without_guest guest old.layers) old.messages old.glances) old)
-  ended-kept = took-keeps takes out mid guest old now room is there_now kept s new at frames frames' (turns.Ended cause) turned over last answers.Ended (moved new (without_guest guest old.layers) old.messages old.glances) over-took
+  pub ended-kept : IsKept room (with_part guest (moved new (without_guest guest old.layers) gate old.messages old.glances) old)
+  ended-kept = took-keeps takes out mid guest old now room is there_now kept s new at frames frames' (turns.Ended cause) turned over last answers.Ended (moved new (without_guest guest old.layers) gate old.messages old.glances) over-took
 
   pub ended-took : (setup : Setup) (held : List ℕ) (st : DeskState) → PartStands setup guest held (part_of guest now) (frames guest) st
-      → TookTold takes out last answers.Ended setup guest held (part_of guest now) (part_of guest (with_part guest (moved new (without_guest guest old.layers) old.messages old.glances) old)) (frames' guest) st
-  ended-took = took-now takes out mid guest old now room is there_now kept s new at frames frames' (turns.Ended cause) turned over last answers.Ended (moved new (without_guest guest old.layers) old.messages old.glances) over-took
+      → TookTold takes out last answers.Ended setup guest held (part_of guest now) (part_of guest (with_part guest (moved new (without_guest guest old.layers) gate old.messages old.glances) old)) (frames' guest) st
+  ended-took = took-now takes out mid guest old now room is there_now kept s new at frames frames' (turns.Ended cause) turned over last answers.Ended (moved new (without_guest guest old.layers) gate old.messages old.glances) over-took
 
-  pub ended-alone : ChangesPart guest now (with_part guest (moved new (without_guest guest old.layers) old.messages old.glances) old)
-  ended-alone = took-alone takes out mid guest old now room is there_now kept s new at frames frames' (turns.Ended cause) turned over last answers.Ended (moved new (without_guest guest old.layers) old.messages old.glances) over-took
+  pub ended-alone : ChangesPart guest now (with_part guest (moved new (without_guest guest old.layers) gate old.messages old.glances) old)
+  ended-alone = took-alone takes out mid guest old now room is there_now kept s new at frames frames' (turns.Ended cause) turned over last answers.Ended (moved new (without_guest guest old.layers) gate old.messages old.glances) over-took
 
-  pub ended-drained : Drained (session_in guest (with_part guest (moved new (without_guest guest old.layers) old.messages old.glances) old))
+  pub ended-drained : Drained (session_in guest (with_part guest (moved new (without_guest guest old.layers) gate old.messages old.glances) old))
   ended-drained =
-      drained-in guest old now is (there takes out mid guest old now room is there_now kept s new at frames frames' (turns.Ended cause) turned over) (moved new (without_guest guest old.layers) old.messages old.glances)
+      drained-in guest old now is (there takes out mid guest old now room is there_now kept s new at frames frames' (turns.Ended cause) turned over) (moved new (without_guest guest old.layers) gate old.messages old.glances)
       (λ still. absurd (exit-over takes out mid kept.setup guest (kept.held guest) (part_of guest old) new (frames guest) (frames' guest) (state takes out mid guest old now room is there_now kept s new at frames frames' (turns.Ended cause) turned over) (stood takes out mid guest old now room is there_now kept s new at frames frames' (turns.Ended cause) turned over) cause (turned' takes out mid guest old now room is there_now kept s new at frames frames' (turns.Ended cause) turned over) (over' takes out mid guest old now room is there_now kept s new at frames frames' (turns.Ended cause) turned over) still))

@@ -22,7 +22,7 @@ pub record IsAtRest (setup : Setup) (desk : DeskView) (frames : ℕ → PortStat
   pub windows : AreAtRest setup desk.windows frames state
   pub seated : HasSeat setup desk.seat state
 
--- the same between two items: the state is sound, too. Nothing is said of what has no effect yet: the clipboard
+-- the same between two items: the state is sound, too
 pub record Stands (setup : Setup) (desk : DeskView) (frames : ℕ → PortState) (state : DeskState) : Type 0 where
   pub windows : AreAtRest setup desk.windows frames state
   pub seated : HasSeat setup desk.seat state

@@ -8,6 +8,7 @@ use Rattle.desk_laws.specs.Scene.{Seat, Post, SceneOutcome}
 use Rattle.desk_laws.specs.Settle.{IsSettled}
 use Rattle.desk_laws.specs.State.{StepOutcome}
 use Rattle.io_ports.specs.Posts.{Leads}
+use Rattle.clipboard_gate.specs.Kept.{GateView, keeping}
 use Rattle.guest_session.specs.SessionView.{SessionView}
 use Rattle.desk_core.specs.DeskPosts.{guest_posts}
 use Rattle.desk_core.specs.Scenes.{IsScene, KeepSessions}
@@ -15,18 +16,20 @@ use Rattle.desk_core.specs.Settling.{HasSeat}
 use Rattle.desk_core.specs.WindowsStand.{StandsWith}
 use Rattle.desk_core.specs.WindowsView.{WindowsView}
 
--- what comes of a scene was carried out: sessions, layers and seat are those of the scene after it, the outlet took what
--- the guests are told, and focus and hover are still those last told, where it is answered that they are
-pub record Performs {O : Type 0} (takes : O → Post → O → Type 0) (out out' : O) (sessions sessions' : List SessionView) (layers' : Layers) (seat' : Seat) (stays : Bool) (sizes : Sizes) (outcome : SceneOutcome) : Type 0 where
+-- what comes of a scene was carried out: sessions, layers, clipboard and seat are those of the scene after it, the outlet
+-- took what the guests are told, and focus and hover are still those last told, where it is answered that they are
+pub record Performs {O : Type 0} (takes : O → Post → O → Type 0) (out out' : O) (sessions sessions' : List SessionView) (layers' : Layers) (gate' : GateView) (seat' : Seat) (stays : Bool) (sizes : Sizes) (outcome : SceneOutcome) : Type 0 where
   pub scene : IsScene sessions' layers' seat' outcome.scene
+  pub clip : gate' ≡ keeping sizes.clip_limit outcome.scene.clip
   pub posts : Leads takes out outcome.posts out'
   pub kept : KeepSessions sessions sessions'
   pub settled : stays ≡ true → IsSettled sizes outcome.scene
 
--- an event was taken: sessions, layers and seat are those of the scene after it, in which focus and hover were told as
--- they are, and the outlet took what the guests are told
-pub record EventTakes {O : Type 0} (takes : O → Post → O → Type 0) (out out' : O) (sessions sessions' : List SessionView) (layers' : Layers) (seat' : Seat) (sizes : Sizes) (outcome : SceneOutcome) : Type 0 where
+-- an event was taken: sessions, layers, clipboard and seat are those of the scene after it, in which focus and hover were
+-- told as they are, and the outlet took what the guests are told
+pub record EventTakes {O : Type 0} (takes : O → Post → O → Type 0) (out out' : O) (sessions sessions' : List SessionView) (layers' : Layers) (gate' : GateView) (seat' : Seat) (sizes : Sizes) (outcome : SceneOutcome) : Type 0 where
   pub scene : IsScene sessions' layers' seat' outcome.scene
+  pub clip : gate' ≡ keeping sizes.clip_limit outcome.scene.clip
   pub settled : IsSettled sizes outcome.scene
   pub posts : Leads takes out outcome.posts out'
   pub kept : KeepSessions sessions sessions'

@@ -14,6 +14,7 @@ use Rattle.desk_laws.specs.Following.{LayersFollow}
 use Rattle.desk_laws.specs.Scene.{Post}
 use Rattle.desk_laws.specs.State.{DeskState, Session, StepOutcome, session_of}
 use Rattle.io_ports.specs.Posts.{Leads}
+use Rattle.clipboard_gate.specs.Kept.{keeping}
 use Rattle.in_stream.specs.Received.{StandsFor}
 use Rattle.guest_session.specs.SessionView.{SessionView, AreRows, opened}
 use Rattle.desk_core.specs.declared.summary.Summary.{Summary}
@@ -27,9 +28,12 @@ pub record HasNumbers (setup : Setup) (desk : WindowsView) : Type 0 where
   pub background : desk.picture.background ≡ setup.background.0
   pub outputs : desk.picture.outputs ≡ setup.outputs
   pub border : desk.border ≡ setup.border
+  pub denied : desk.denied ≡ setup.denied
   pub labels : (guest : ℕ) → guest < length setup.guests → slice_get desk.labels guest ≡ Some (record { 0 = label_of setup guest })
   pub wide : 1 ≤ setup.border
   pub narrow : setup.border ≤ 16
+  pub most_columns : setup.width ≤ 8192
+  pub most_rows : setup.height ≤ 8192
   pub guests : guests_of desk ≡ length setup.guests
   pub some : 1 ≤ length setup.guests
   pub few : length setup.guests ≤ MAX_GUESTS
@@ -42,7 +46,7 @@ pub record IsOpen (held : List ℕ) (view : SessionView) (session : Session) : T
 
 -- one guest's part of the windows stands for a state of the definitions, with a port on which the guest's frames are
 -- these, and holds these bytes of the guest while its session is open. Nothing is said of what windows don't keep: the
--- seat, which the desk adds, and the clipboard, which has no effect yet
+-- seat, which the desk adds
 pub record PartStands (setup : Setup) (guest : ℕ) (held : List ℕ) (part : PartView) (port : PortState) (state : DeskState) : Type 0 where
   pub there : guest < length state.sessions
   pub sizes : part.session.sizes ≡ sizes_of setup
@@ -52,6 +56,7 @@ pub record PartStands (setup : Setup) (guest : ℕ) (held : List ℕ) (part : Pa
   pub apart : are_apart (map id_of state.scene.rows) ≡ true
   pub layers : state.scene.layers ≡ part.layers
   pub followed : LayersFollow state.scene.rows part.layers
+  pub gate : part.gate ≡ keeping (sizes_of setup).clip_limit state.scene.clip
   pub ended : (session_of guest state).ended ≡ part.session.ended
   pub opened : part.session.ended ≡ None → IsOpen held part.session (session_of guest state)
   pub frames : (session_of guest state).port ≡ port

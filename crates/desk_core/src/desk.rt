@@ -158,7 +158,7 @@ impl Desk {
     fn event<O: Outlet>(&mut self, item: &Item, out: &mut O)
         ensures took { TakesOn O.takes out.old out.new item.now self.old self.new }
         ensures kept { KeepSessions self.old.windows.sessions self.new.windows.sessions }
-        ensures rest { self.new.windows ≡ record self.old.windows { sessions = self.new.windows.sessions; layers = self.new.windows.layers } }
+        ensures rest { self.new.windows ≡ record self.old.windows { sessions = self.new.windows.sessions; layers = self.new.windows.layers; gate = self.new.windows.gate } }
     {
         self.windows.event(&mut self.router, item, out);
     }

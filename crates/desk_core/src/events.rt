@@ -8,7 +8,8 @@ ghost use Rattle.desk_laws.specs.Scene.{Scene, and_then, ignored, perform};
 ghost use Rattle.desk_laws.specs.Settle.{IsSettled, settle as settled_after};
 ghost use Rattle.desk_laws.specs.Sizes.{sizes_of};
 ghost use Rattle.input_router.specs.Routes.{HasPixel, StaysOn};
-ghost use Rattle.desk_core.specs.Scenes.{IsScene};
+ghost use Rattle.clipboard_gate.specs.Kept.{keeping};
+ghost use Rattle.desk_core.specs.Scenes.{IsScene, KeepSessions, TakePastes};
 ghost use Rattle.desk_core.specs.EventSteps.{Performs, EventTakes};
 
 use crate::deliveries::Queue;
@@ -16,7 +17,8 @@ use crate::grants::carry_out;
 use crate::outputs::stays_on;
 use crate::places::SessionPlaces;
 use crate::settle::settle;
-use desk_laws::Item;
+use clipboard_gate::Gate;
+use desk_laws::{Item, Pair};
 use guest_session::Session;
 use gui_num::Rect;
 use input_router::Router;
@@ -29,53 +31,63 @@ fn perform_event<O: Outlet>(
     router: &mut Router,
     sessions: &mut [Session],
     stack: &mut Stacking,
+    gate: &mut Gate,
+    denied: &[Pair],
     border: u32,
     item: &Item,
     out: &mut O,
 ) -> bool
     requires border { border ≤ 16 }
+    requires pastes { TakePastes gate.old sessions.old }
     requires pixel { HasPixel item.now }
     ensures rows { stack.new.rows ≡ stack.old.rows }
     ensures count { length sessions.new ≡ length sessions.old }
-    ensures performs { (setup : Setup) (scene : Scene) → setup.border ≡ border → StaysOn setup item.now → IsScene sessions.old stack.old.layers router.old scene → IsSettled (sizes_of setup) scene
-        → Performs O.takes out.old out.new sessions.old sessions.new stack.new.layers router.new result (sizes_of setup) (perform (route setup item.now scene) scene) }
+    ensures sessions { KeepSessions sessions.old sessions.new }
+    ensures limit { gate.new.limit ≡ gate.old.limit }
+    ensures performs { (setup : Setup) (scene : Scene) → setup.border ≡ border → setup.denied ≡ denied.now → StaysOn setup item.now
+        → IsScene sessions.old stack.old.layers router.old scene → gate.old ≡ keeping (sizes_of setup).clip_limit scene.clip → IsSettled (sizes_of setup) scene
+        → Performs O.takes out.old out.new sessions.old sessions.new stack.new.layers gate.new router.new result (sizes_of setup) (perform setup.denied (route setup item.now scene) scene) }
 {
     let mut queue = Queue::new();
     let places = SessionPlaces { sessions, border };
     let taken = router.take(item, stack, &places, &mut queue);
-    carry_out(&queue, sessions, out);
+    carry_out(&queue, sessions, gate, denied, out);
     taken.settled
 }
 
 /// Takes an event of the user, on a desktop with these outputs and with borders of so many pixels: it is
 /// routed to the windows, what it hands on to them is carried out, and the rows are told of the focus and
 /// of the hover where they are others than before. A Move to a pixel in no output does nothing, and
-/// neither does an item that isn't an event of the user. No memory is taken.
+/// neither does an item that isn't an event of the user. No paste goes between the denied pairs of guests.
+/// No memory is taken.
 ///
 /// What comes of it is what the definitions give for an event on the scene that these sessions, this
-/// stack and this router are those of, where focus and hover were told as they are there.
+/// stack, this clipboard and this router are those of, where focus and hover were told as they are there.
 pub(crate) fn take_event<O: Outlet>(
     router: &mut Router,
     sessions: &mut [Session],
     stack: &mut Stacking,
+    gate: &mut Gate,
+    denied: &[Pair],
     border: u32,
     outputs: &[Rect],
     item: &Item,
     out: &mut O,
 )
     requires border { border ≤ 16 }
+    requires pastes { TakePastes gate.old sessions.old }
     requires outputs { All (LiesIn 8192 8192) outputs.now }
     ensures rows { stack.new.rows ≡ stack.old.rows }
     ensures count { length sessions.new ≡ length sessions.old }
-    ensures takes { (setup : Setup) (scene : Scene) → setup.border ≡ border → setup.outputs ≡ outputs.now
-        → IsScene sessions.old stack.old.layers router.old scene → IsSettled (sizes_of setup) scene
-        → EventTakes O.takes out.old out.new sessions.old sessions.new stack.new.layers router.new (sizes_of setup) (and_then (perform (route setup item.now scene) scene) (settled_after (sizes_of setup))) }
+    ensures takes { (setup : Setup) (scene : Scene) → setup.border ≡ border → setup.outputs ≡ outputs.now → setup.denied ≡ denied.now
+        → IsScene sessions.old stack.old.layers router.old scene → gate.old ≡ keeping (sizes_of setup).clip_limit scene.clip → IsSettled (sizes_of setup) scene
+        → EventTakes O.takes out.old out.new sessions.old sessions.new stack.new.layers gate.new router.new (sizes_of setup) (and_then (perform setup.denied (route setup item.now scene) scene) (settled_after (sizes_of setup))) }
 {
     if !stays_on(item, outputs) {
         return;
     }
-    let settled = perform_event(router, sessions, stack, border, item, out);
+    let settled = perform_event(router, sessions, stack, gate, denied, border, item, out);
     if !settled {
-        settle(router, sessions, stack, border, out);
+        settle(router, sessions, stack, gate, denied, border, out);
     }
 }

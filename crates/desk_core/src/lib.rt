@@ -5,12 +5,14 @@
 //! All memory is taken as a desk is opened.
 #![tactic(auto)]
 
+mod clip;
 mod deliveries;
 mod desk;
 mod events;
 mod grants;
 mod outputs;
 mod panes;
+mod pastes;
 mod places;
 mod settle;
 mod stack;

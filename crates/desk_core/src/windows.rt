@@ -21,13 +21,15 @@ ghost use Rattle.desk_core.specs.Telling.{EndsTold, KeepsStanding, TookTold, ans
 ghost use Rattle.desk_core.specs.WindowsStand.{AreAtRest, IsFresh, PartStands, StandsWith, StoresTo, glances_in, item_counted, summary_in};
 ghost use Rattle.desk_core.specs.WindowsView.{ChangesPart, guests_of, no_session, pages_of, part_of, picture_of, session_in};
 
+use crate::clip::{drop_clip, take_clip};
 use crate::events::take_event;
 use crate::panes::{Shown, StackPanes, show_stack};
 use crate::settle::settle;
 use crate::stack::{follow, layer_of};
 use crate::summary::Summary;
+use clipboard_gate::Gate;
 use compositor::Picture;
-use desk_laws::{Cause, GuestSetup, Item, MAX_WINDOWS, RowId, Setup};
+use desk_laws::{Cause, GuestSetup, Item, MAX_WINDOWS, Pair, RowId, Setup};
 use frame_pool::FramePort;
 use guest_session::{Session, Turn};
 use gui_num::{Colour, NoMemory, Rect, area};
@@ -80,13 +82,17 @@ impl Told {
 }
 
 // The windows of 1 to 16 guests. Each guest is answered alone, its frames are read where it says that they
-// changed, and a picture is kept of what all of them show. Focus and hover are told by `settle` alone.
+// changed, the clipboard holds the data of the guest that was asked, and a picture is kept of what all of
+// them show. Focus and hover are told by `settle` alone.
 #[derive(Drop)]
 pub(crate) struct Windows {
     border: u32,
     labels: Vec<Colour>,
     sessions: Vec<Session>,
     stack: Stacking,
+    gate: Gate,
+    // The pairs of guests between which no paste goes.
+    denied: Vec<Pair>,
     items: u64,
     messages: u64,
     glances: u64,
@@ -102,9 +108,9 @@ impl Model for Windows {
 
     ghost Value = { WindowsView };
 
-    ghost view = { λ d. record { border = d.border; labels = d.labels.items; sessions = d.sessions.items; layers = d.stack.layers; items = d.items; messages = d.messages; glances = d.glances; picture = d.picture } };
+    ghost view = { λ d. record { border = d.border; labels = d.labels.items; sessions = d.sessions.items; layers = d.stack.layers; gate = d.gate; denied = d.denied.items; items = d.items; messages = d.messages; glances = d.glances; picture = d.picture } };
 
-    ghost invariant = { λ d. IsKept d.stack.rows (record { border = d.border; labels = d.labels.items; sessions = d.sessions.items; layers = d.stack.layers; items = d.items; messages = d.messages; glances = d.glances; picture = d.picture }) × (d.stack.rows ≤ vec_capacity d.shown) };
+    ghost invariant = { λ d. IsKept d.stack.rows (record { border = d.border; labels = d.labels.items; sessions = d.sessions.items; layers = d.stack.layers; gate = d.gate; denied = d.denied.items; items = d.items; messages = d.messages; glances = d.glances; picture = d.picture }) × (d.stack.rows ≤ vec_capacity d.shown) };
 }
 
 // A count, and one more where something counts.
@@ -133,6 +139,17 @@ fn labels_of(alloc: Global, guests: &[GuestSetup]) -> Result<Vec<Colour>, NoMemo
         labels.push_reserved(guest.colour);
     }
     Ok(labels)
+}
+
+// A copy of these pairs of guests. `NoMemory` where there is none for it.
+fn pairs_of(alloc: Global, denied: &[Pair]) -> Result<Vec<Pair>, NoMemory>
+    ensures { IfOk result (λ pairs. pairs.items ≡ denied.now) }
+{
+    let mut pairs = Vec::with_capacity(alloc, denied.len())?;
+    for pair in denied {
+        pairs.push_reserved(*pair);
+    }
+    Ok(pairs)
 }
 
 // A session for each guest of a setup, in their order. `NoMemory` where there is none for them.
@@ -181,6 +198,8 @@ impl Windows {
             labels: labels_of(alloc, guests)?,
             sessions: open_sessions(alloc, setup)?,
             stack: Stacking::new(alloc, windows)?,
+            gate: Gate::new(alloc, setup.clip_limit())?,
+            denied: pairs_of(alloc, setup.denied.items())?,
             items: 0,
             messages: 0,
             glances: 0,
@@ -216,13 +235,19 @@ impl Windows {
                 self.glances = count_read(self.glances, drawn);
                 told_of(drawn)
             }
-            Turn::ClipWhole | Turn::ClipOver => {
-                session.clip_done();
+            Turn::ClipWhole => {
+                take_clip(session, guest, &mut self.gate);
+                self.messages = count_if(self.messages, true);
+                Told::Changed
+            }
+            Turn::ClipOver => {
+                drop_clip(session, guest, &mut self.gate);
                 self.messages = count_if(self.messages, true);
                 Told::Changed
             }
             Turn::Ended(cause) => {
                 self.stack.leave_guest(guest);
+                self.gate.forget(guest);
                 out.ended(guest, cause);
                 Told::Ended
             }
@@ -254,6 +279,7 @@ impl Windows {
         }
         self.sessions[guest as usize].end(cause);
         self.stack.leave_guest(guest);
+        self.gate.forget(guest);
         out.ended(guest, cause);
         Told::Ended
     }
@@ -268,7 +294,15 @@ impl Windows {
         if !told.moves() {
             return;
         }
-        settle(router, &mut self.sessions, &self.stack, self.border, out);
+        settle(
+            router,
+            &mut self.sessions,
+            &self.stack,
+            &mut self.gate,
+            &self.denied,
+            self.border,
+            out,
+        );
     }
 
     /// Takes an event of the user: it is routed to the windows, and focus and hover are told where they
@@ -276,7 +310,7 @@ impl Windows {
     /// an item that isn't an event of the user.
     pub(crate) fn event<O: Outlet>(&mut self, router: &mut Router, item: &Item, out: &mut O)
         requires { AreSeated self.old router.old }
-        ensures rest { self.new ≡ record self.old { sessions = self.new.sessions; layers = self.new.layers } }
+        ensures rest { self.new ≡ record self.old { sessions = self.new.sessions; layers = self.new.layers; gate = self.new.gate } }
         ensures kept { KeepSessions self.old.sessions self.new.sessions }
         ensures event { (setup : Setup) (held : ℕ → List ℕ) (frames : ℕ → PortState) (state : DeskState) → StandsWith setup held self.old frames state → HasSeat setup router.old state
             → EventsTo O.takes out.old out.new setup held self.new frames router.new (event setup item.now state) }
@@ -285,6 +319,8 @@ impl Windows {
             router,
             &mut self.sessions,
             &mut self.stack,
+            &mut self.gate,
+            &self.denied,
             self.border,
             self.picture.outputs(),
             item,

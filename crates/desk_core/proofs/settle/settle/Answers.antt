@@ -5,10 +5,10 @@ use Rattle.desk_core.proofs.SettledScenes.{settle-done, scene-presents}
 use Rattle.desk_core.proofs.settle.settle.Goals as goal
 
 pub returns : goal.returns
-returns g c = λ sizes scene same is.
+returns g c = λ sizes scene same is holds.
     let sessions = c.args.sessions.now in
     let layers = c.args.stack.now.layers in
     let seat = c.args.router.now in
     let P : ℕ → Type 0 = λ border. Presents border (spots_of c.args.border sessions) layers seat scene in
-    settle-done g.O.Outlet.takes c.args.out.now c.carry_out.new.out sessions c.carry_out.new.sessions layers seat c.settle.new.self c.new-queue.result c.settle.new.to sizes scene is c.new-queue.ensures
-    (c.settle.ensures sizes scene (subst P (sym same) (scene-presents c.args.border sessions layers seat scene is))) c.carry_out.ensures
+    settle-done g.O.Outlet.takes c.args.out.now c.carry_out.new.out sessions c.carry_out.new.sessions layers c.args.gate.now c.carry_out.new.gate seat c.settle.new.self c.args.denied.now c.new-queue.result c.settle.new.to sizes scene is holds c.new-queue.ensures
+    (c.settle.ensures sizes scene (subst P (sym same) (scene-presents c.args.border sessions layers seat scene is))) c.carry_out.ensures.kept c.carry_out.ensures.delivers

@@ -5,6 +5,8 @@ use Rattle.desk_laws.specs.Frames.{zeros}
 use Rattle.desk_laws.specs.State.{opening}
 use Rattle.desk_laws.proofs.RuleLemmas.{HasRanges, ranges-kept}
 use Rattle.stacking.specs.Stacked.{Stacked}
+use Rattle.clipboard_gate.specs.Kept.{keeping}
+use Rattle.desk_laws.specs.Clipboard.{empty_clip}
 use Rattle.guest_session.specs.SessionView.{SessionView}
 use Rattle.desk_core.specs.WindowsView.{WindowsView}
 use Rattle.desk_core.proofs.OpeningStands.{IsOpened, border-wide, label-at, opening-stands, opening-with}
@@ -17,6 +19,8 @@ made_desk c = record {
   labels = c.in_ok-labels_of.field-0.items;
   sessions = c.in_ok-open_sessions.field-0.items;
   layers = c.in_ok-new.field-0.layers;
+  gate = c.in_ok-new-2.field-0;
+  denied = c.in_ok-pairs_of.field-0.items;
   items = 0;
   messages = 0;
   glances = 0;
@@ -36,15 +40,19 @@ made c =
         background = c.in_ok-open_picture.ensures.numbers.2;
         outputs = c.in_ok-open_picture.ensures.numbers.3;
         border = refl;
+        denied = c.in_ok-pairs_of.ensures ∙ c.items.ensures;
         labels = λ guest below. ap (λ ls. slice_get ls guest) labels ∙ label-at setup.guests guest below;
         wide = border-wide setup c.requires;
         narrow = ranges.narrow;
+        most_columns = ranges.wide;
+        most_rows = ranges.high;
         guests = c.in_ok-open_sessions.ensures.count;
         some = ranges.some;
         few = ranges.few;
       };
       sessions = c.in_ok-open_sessions.ensures.fresh;
       layers = ap (λ (s : Stacked). s.layers) c.in_ok-new.ensures;
+      gate = c.in_ok-new-2.ensures ∙ ap (λ limit. keeping limit empty_clip) c.clip_limit.ensures;
       items = refl;
       messages = refl;
       glances = refl;
