@@ -1,8 +1,10 @@
 -- What an event of the user does to a desk, from what the router routes and what is carried out of it.
-use Rattle.std.proofs.Common.{◌≡◌, ℕ, ◌≤◌, Bool, true, List, [], length, refl, sym, ◌∙◌, ap, subst, arith}
+use Rattle.std.proofs.Common.{◌≡◌, ℕ, ◌≤◌, Bool, true, false, List, [], length, Option, refl, sym, ◌∙◌, ap, subst, arith}
 use Rattle.desk_laws.specs.declared.setup.Pair.{Pair}
 use Rattle.desk_laws.specs.declared.setup.Setup.{Setup}
 use Rattle.desk_laws.specs.declared.item.Item.{Item}
+use Rattle.desk_laws.specs.declared.item.Item.TheVariants as item
+use Rattle.desk_laws.specs.declared.row_id.RowId.{RowId}
 use Rattle.desk_laws.specs.Sizes.{Sizes, sizes_of}
 use Rattle.desk_laws.specs.Layers.{Layers}
 use Rattle.desk_laws.specs.Scene.{Scene, Seat, Post, Delivery, InputOutcome, SceneOutcome, unchanged, and_then, deliver_all, ignored, perform, scene_of_input}
@@ -16,12 +18,12 @@ use Rattle.clipboard_gate.specs.Kept.{GateView, keeping}
 use Rattle.input_router.specs.declared.router.Taken.{Taken}
 use Rattle.input_router.specs.Deliveries as queue
 use Rattle.input_router.specs.Presents.{Presents}
-use Rattle.input_router.specs.Routes.{AreMapped, StaysOn, Takes}
+use Rattle.input_router.specs.Routes.{AreMapped, FindsHover, StaysOn, Takes, settled_by}
 use Rattle.input_router.proofs.DeliveryLemmas.{route-few}
 use Rattle.input_router.proofs.SceneLemmas.{listed-mapped}
-use Rattle.input_router.proofs.SettledLemmas.{event-settled}
+use Rattle.input_router.proofs.SettledLemmas.{event-settled, move-alone}
 use Rattle.guest_session.specs.SessionView.{SessionView}
-use Rattle.desk_core.specs.EventSteps.{Performs, EventTakes}
+use Rattle.desk_core.specs.EventSteps.{Performs, EventTakes, FindsBehind, KnowsHover}
 use Rattle.desk_core.specs.Places.{spots_of}
 use Rattle.desk_core.specs.Queued.{Queues}
 use Rattle.desk_core.specs.Scenes.{HasRowsOf, KeepSessions, Delivered, IsScene, Settles}
@@ -74,6 +76,15 @@ event-performed takes out out' sessions sessions' before after gate gate' seat s
       kept = kept;
       settled = λ stays. event-settled setup i scene is.follow still (sym routes.settled ∙ stays);
     }
+
+-- behind a Move in which the hover changes it is the one that was found, since nothing was handed on
+pub move-found : (setup : Setup) (i : Item) (scene : Scene) (settled : Bool) (hover : Option RowId) → StaysOn setup i → settled ≡ settled_by setup i scene
+    → FindsHover setup i scene hover → IsSettled (sizes_of setup) scene → settled ≡ false
+    → FindsBehind i (sizes_of setup) (perform setup.denied (route setup i scene) scene).scene hover
+move-found setup (item.Move x y state) scene settled hover on is found still left =
+    let P : SceneOutcome → Type 0 = λ o. KnowsHover (sizes_of setup) o.scene hover in
+    subst P (sym (move-alone setup x y state scene on (sym is ∙ left))) (record { holds = still.grab; is = found })
+move-found setup i scene settled hover on is found still left = tt
 
 -- ---- focus and hover behind it
 
