@@ -1,19 +1,33 @@
 //! The daemon as a library: opens a desk, lets a guest show a window, and looks at a pixel.
 #![tactic(auto)]
 
-ghost use Rattle.std.specs.Prelude.{◌≡◌, None, length, IfOk};
+ghost use Rattle.std.specs.Prelude.{◌≡◌, [], ◌∷◌, pos, None, length, IfOk};
 ghost use Rattle.desk_laws.specs.Rules.{first_broken};
 
 use desk_core::Desk;
-use desk_laws::{GuestSetup, Guests, Item, Name, Setup};
+use desk_laws::{GuestSetup, Guests, Item, Name, Outputs, Pairs, Setup};
 use frame_pool::PoolPort;
-use gui_num::{Colour, NoMemory};
+use gui_num::{Colour, NoMemory, Rect};
 use gui_wire::{AgentMsg, spell_agent, spell_word};
 use io_ports::PostList;
 use std::alloc::Global;
 use std::io;
 
-// A black desktop of 8 by 6 pixels and one guest, whose windows have red rings of one pixel.
+// One output of 8 by 6 pixels.
+fn outputs(alloc: Global) -> Result<Outputs, NoMemory>
+    ensures { IfOk result (λ outputs. outputs ≡ record { x = pos 0; y = pos 0; w = 8; h = 6 } ∷ []) }
+{
+    let mut outputs = Outputs::new(alloc);
+    outputs.push(Rect {
+        x: 0,
+        y: 0,
+        w: 8,
+        h: 6,
+    })?;
+    Ok(outputs)
+}
+
+// A black desktop of 8 by 6 pixels, shown whole, and one guest, whose windows have red rings of one pixel.
 fn setup(alloc: Global) -> Result<Setup, NoMemory>
     ensures rules { IfOk result (λ setup. first_broken setup ≡ None) }
     ensures one { IfOk result (λ setup. length setup.guests ≡ 1) }
@@ -32,6 +46,9 @@ fn setup(alloc: Global) -> Result<Setup, NoMemory>
         percent: 90,
         background: Colour(0),
         guests,
+        outputs: outputs(alloc)?,
+        clip: 1,
+        denied: Pairs::new(alloc),
     })
 }
 

@@ -18,6 +18,7 @@ use Rattle.desk_core.proofs.GuestPosts.{AreForGuests, for_guests-append, for_gue
 use Rattle.desk_core.proofs.PostLemmas.{guest-replies}
 use Rattle.record_format.specs.OutputGrammar.{post_bytes, posts_bytes}
 use Rattle.record_format.specs.RecordGrammar.{is_end}
+use Rattle.replay_driver.proofs.SnapPosts.{pictures_any}
 
 -- ---- the desk
 
@@ -28,8 +29,8 @@ for_guests-ends setup guest input cause desk =
 
 for_guests-unit_done : (setup : Setup) (guest : ℕ) (unit : StreamUnit) (e : Effect) (cause : Option Cause) (desk : DeskState) → AreForGuests (unit_done setup guest unit e cause desk).posts
 for_guests-unit_done setup guest unit e None desk =
-    for_guests-append (replies guest e.answers) (settle (sizes_of setup) (unit_told guest unit e desk.scene).scene).posts
-    (guest-replies guest e.answers) (for_guests-settle (sizes_of setup) (unit_told guest unit e desk.scene).scene)
+    for_guests-append (replies guest e.answers) (settle (sizes_of setup) (unit_told (sizes_of setup).clip_limit guest unit e desk.scene).scene).posts
+    (guest-replies guest e.answers) (for_guests-settle (sizes_of setup) (unit_told (sizes_of setup).clip_limit guest unit e desk.scene).scene)
 for_guests-unit_done setup guest unit e (Some cause) desk = for_guests-ends setup guest (Took unit) cause desk
 
 for_guests-unit_of_open : (setup : Setup) (guest : ℕ) (unit : StreamUnit) (ended : Option Cause) (desk : DeskState) → AreForGuests (unit_of_open setup guest unit ended desk).posts
@@ -62,9 +63,9 @@ for_guests-store_of_open guest delay page offset bytes None desk = refl
 
 for_guests-event : (setup : Setup) (item : Item) (desk : DeskState) → AreForGuests (event setup item desk).posts
 for_guests-event setup item desk =
-    let done = perform (route setup item desk.scene) desk.scene in
+    let done = perform setup.denied (route setup item desk.scene) desk.scene in
     for_guests-append done.posts (settle (sizes_of setup) done.scene).posts
-    (for_guests-perform (route setup item desk.scene) desk.scene) (for_guests-settle (sizes_of setup) done.scene)
+    (for_guests-perform setup.denied (route setup item desk.scene) desk.scene) (for_guests-settle (sizes_of setup) done.scene)
 
 -- a step that is neither Snap nor End
 abbrev pub is_quiet : Item → Bool
@@ -124,7 +125,7 @@ any_count setup p q items.Next piece desk more = quiet_any setup p q items.Next 
 any_count setup p q items.Restore piece desk more = quiet_any setup p q items.Restore piece desk refl
 any_count setup p q (items.MoveTo x y) piece desk more = quiet_any setup p q (items.MoveTo x y) piece desk refl
 any_count setup p q (items.SizeTo w h) piece desk more = quiet_any setup p q (items.SizeTo w h) piece desk refl
-any_count setup p q items.Snap piece desk more = refl
+any_count setup p q items.Snap piece desk more = pictures_any setup desk.scene.rows desk.scene.layers p q setup.outputs
 any_count setup p q items.End piece desk more = absurd (cc)
 any_count setup p q (items.Lost guest) piece desk more = quiet_any setup p q (items.Lost guest) piece desk refl
 any_count setup p q items.Idle piece desk more = refl

@@ -1,15 +1,15 @@
 -- What is written for an item, from what guests are told and what the program writes itself.
-use Rattle.std.proofs.Common.{◌≡◌, ℕ, ◌≤◌, List, [], ◌++◌, Option, Result, Ok, Err, true, inl, inr, refl, sym, ◌∙◌, ap, subst, arith}
+use Rattle.std.proofs.Common.{◌≡◌, ℕ, ◌≤◌, List, [], ◌++◌, map, Option, Result, Ok, Err, true, inl, inr, refl, sym, ◌∙◌, ap, subst, arith}
 use Rattle.std.specs.Prelude.{◌⊎◌, OnOk, OnErr}
+use Rattle.std.specs.List.{All}
 use Rattle.std.proofs.lemmas.List.{append-nil}
 use Rattle.desk_laws.specs.declared.setup.Setup.{Setup}
 use Rattle.desk_laws.specs.declared.item.Item.{Item}
 use Rattle.desk_laws.specs.declared.item.Item.TheVariants as items
-use Rattle.desk_laws.specs.Picture.{picture}
 use Rattle.desk_laws.specs.Scene.{Counts}
 use Rattle.desk_laws.specs.Frames.{PortState}
 use Rattle.desk_laws.specs.State.{DeskState, count_item}
-use Rattle.desk_laws.specs.Steps.{step}
+use Rattle.desk_laws.specs.Steps.{picture_post, step}
 use Rattle.io_ports.specs.declared.source.Failed.{Failed}
 use Rattle.io_ports.specs.Content.{Grows, GrowsPart, IsPrefix}
 use Rattle.io_ports.specs.Counts.{HasCause}
@@ -20,10 +20,13 @@ use Rattle.desk_core.specs.declared.desk.Stepped.{Stepped}
 use Rattle.desk_core.specs.declared.desk.Stepped.TheVariants as stepped
 use Rattle.desk_core.specs.DeskStands.{Stands, stepped_of}
 use Rattle.replay_driver.specs.ItemWrites.{Wrote, StepWrites, guest_bytes_of, step_bytes}
-use Rattle.record_format.specs.OutputGrammar.{picture_record, summary_record}
-use Rattle.desk_core.specs.Painting.{painted_after}
-use Rattle.compositor.specs.PictureView.{PictureView}
-use Rattle.replay_driver.proofs.DeskFacts.{width_is, height_is}
+use Rattle.record_format.specs.OutputGrammar.{posts_bytes, summary_record}
+use Rattle.desk_core.specs.Painting.{painted_after, plane}
+use Rattle.compositor.specs.PictureView.{PictureView, LiesIn}
+use Rattle.replay_driver.proofs.DeskFacts.{width_is, height_is, outputs_is}
+use Rattle.replay_driver.specs.PictureRecords.{picture_records}
+use Rattle.replay_driver.proofs.PlanePictures.{records_are}
+use Rattle.replay_driver.proofs.SnapPosts.{pictures_told}
 use Rattle.replay_driver.proofs.GuestPosts.{is_quiet, quiet_bytes}
 use Rattle.replay_driver.proofs.WriterLemmas.{rose_before}
 
@@ -94,11 +97,16 @@ end_is item is = elim (kind_of item) [
   | inr (inr end) ↦ end
 ]
 
+-- no guest is told of Snap
+snap_told : (setup : Setup) (item : Item) (piece : List ℕ) (state : DeskState) → item ≡ items.Snap → guest_bytes_of setup item piece state ≡ []
+snap_told setup item piece state snap =
+    ap (λ (i : Item). guest_bytes_of setup i piece state) snap ∙ ap (posts_bytes 0) (pictures_told setup state.scene.rows state.scene.layers setup.outputs)
+
 -- what guests are told is the first of what a step gives
 told_first : (setup : Setup) (p : ℕ) (item : Item) (piece : List ℕ) (state : DeskState) → IsPrefix (guest_bytes_of setup item piece state) (step_bytes p setup item piece state)
 told_first setup p item piece state = elim (kind_of item) [
   | inl quiet ↦ subst (λ (l : List ℕ). IsPrefix (guest_bytes_of setup item piece state) l) (quiet_bytes setup 0 p item piece state quiet) (prefix_self (guest_bytes_of setup item piece state))
-  | inr (inl snap) ↦ subst (λ (i : Item). IsPrefix (guest_bytes_of setup i piece state) (step_bytes p setup i piece state)) (sym snap) (prefix_nil _)
+  | inr (inl snap) ↦ subst (λ (l : List ℕ). IsPrefix l (step_bytes p setup item piece state)) (sym (snap_told setup item piece state snap)) (prefix_nil _)
   | inr (inr end) ↦ subst (λ (i : Item). IsPrefix (guest_bytes_of setup i piece state) (step_bytes p setup i piece state)) (sym end) (prefix_nil _)
 ]
 
@@ -140,20 +148,17 @@ item_going setup p item piece state old new frames answer a b f g keeps told is 
 
 pub item_snap : (setup : Setup) (p : ℕ) (item : Item) (piece : List ℕ) (state : DeskState) (old new : DeskView) (frames : ℕ → PortState) (answer : Stepped) (view : PictureView) (r : Result (Unit {0}) Failed) (a b c : Option (List ℕ)) (f g h : ℕ) (keeps keeps' : Type 0)
     → StepWrites {T = Stepped} setup item piece state old new frames (Ok answer) (guest_bytes_of setup item piece state) a b f g keeps → item ≡ items.Snap
-    → view ≡ picture_of new → (picture_of new).pixels ≡ picture setup state.scene.rows state.scene.layers
-    → Wrote r (picture_record view.width view.height view.pixels) b c → HasCause g h r → (keeps → keeps')
+    → view ≡ picture_of new → (picture_of new).pixels ≡ plane setup state.scene.rows state.scene.layers
+    → All (LiesIn (picture_of new).width (picture_of new).height) (picture_of new).outputs
+    → Wrote r (picture_records view) b c → HasCause g h r → (keeps → keeps')
     → StepWrites {T = Unit {0}} setup item piece state old new frames r (step_bytes p setup item piece state) a c f h keeps'
-item_snap setup p item piece state old new frames answer view r a b c f g h keeps keeps' told snap shows drawn wrote cause on =
-    let pixels = picture setup state.scene.rows state.scene.layers in
-    let none : guest_bytes_of setup item piece state ≡ [] = ap (λ (i : Item). guest_bytes_of setup i piece state) snap in
-    let record_is : picture_record view.width view.height view.pixels ≡ picture_record setup.width setup.height pixels =
-    ap (λ (v : PictureView). picture_record v.width v.height v.pixels) shows
-    ∙ ap (λ (w : ℕ). picture_record w (picture_of new).height (picture_of new).pixels) (width_is setup new frames _ told.stands)
-    ∙ ap (λ (n : ℕ). picture_record setup.width n (picture_of new).pixels) (height_is setup new frames _ told.stands)
-    ∙ ap (picture_record setup.width setup.height) drawn in
-    let whole : guest_bytes_of setup item piece state ++ picture_record view.width view.height view.pixels ≡ step_bytes p setup item piece state =
-    ap (λ (l : List ℕ). l ++ picture_record view.width view.height view.pixels) none ∙ record_is
-    ∙ sym (append-nil (picture_record setup.width setup.height pixels)) ∙ ap (λ (i : Item). step_bytes p setup i piece state) (sym snap) in
+item_snap setup p item piece state old new frames answer view r a b c f g h keeps keeps' told snap shows drawn placed wrote cause on =
+    let records : picture_records view ≡ posts_bytes p (map (picture_post setup state.scene.rows state.scene.layers) setup.outputs) =
+    ap picture_records shows
+    ∙ records_are setup state.scene.rows state.scene.layers p (picture_of new) (width_is setup new frames _ told.stands) (height_is setup new frames _ told.stands)
+    (outputs_is setup new frames _ told.stands) drawn placed in
+    let whole : guest_bytes_of setup item piece state ++ picture_records view ≡ step_bytes p setup item piece state =
+    ap (λ (l : List ℕ). l ++ picture_records view) (snap_told setup item piece state snap) ∙ records ∙ ap (λ (i : Item). step_bytes p setup i piece state) (sym snap) in
     record {
       stands = told.stands;
       painted = told.painted;

@@ -1,4 +1,7 @@
 pub mod PictureBytes
+pub mod OutputRows
+pub mod PlanePictures
+pub mod SnapPosts
 pub mod GuestPosts
 pub mod WriterLemmas
 pub mod DeskFacts

@@ -5,4 +5,5 @@ pub mod FeedReadings
 pub mod FeedRuns
 pub mod FeedOutcomes
 pub mod Writes
+pub mod PictureRecords
 pub mod ItemWrites

@@ -1,19 +1,19 @@
 // Runs the desk over a feed.
-ghost use Rattle.std.specs.Prelude.{◌≡◌, ◌≤◌, ◌*◌, length, vec_len, IfOk, None};
+ghost use Rattle.std.specs.Prelude.{◌≡◌, ◌≤◌, ◌*◌, length, map, vec_len, IfOk, None};
 ghost use Rattle.io_ports.specs.Counts.{Rose};
 ghost use Rattle.desk_laws.specs.Rules.{first_broken, Fits};
 ghost use Rattle.desk_laws.specs.State.{opening};
 ghost use Rattle.desk_laws.specs.declared.limits.TheConstants.{MAX_PIECE};
 ghost use Rattle.replay_driver.specs.FeedOutcomes.{FeedCall, RanOver, after_feed};
+ghost use Rattle.replay_driver.specs.PictureRecords.{head_of};
 ghost use Rattle.frame_pool.specs.Ports.{AreZeros};
 ghost use Rattle.desk_core.specs.DeskView.{picture_of};
 ghost use Rattle.desk_core.specs.DeskStands.{Stands};
-ghost use Rattle.record_format.specs.OutputGrammar.{picture_head};
 ghost use Rattle.record_format.specs.RecordGrammar.{is_end};
 
 use crate::item_writer::write_item;
 use crate::outcome::{Bounds, Outcome};
-use crate::picture_writer::picture_head;
+use crate::picture_writer::{Head, picture_heads};
 use desk_core::Desk;
 use desk_laws::{Item, MAX_PIECE, Setup};
 use frame_pool::FramePort;
@@ -21,27 +21,26 @@ use gui_num::NoMemory;
 use io_ports::{Feed, FeedFault, Sink};
 use std::alloc::Global;
 
-// What a run takes of memory beside the desk: the head of its Picture records, the bytes of one row
-// of pixels, and the bytes of one item.
+// What a run takes of memory beside the desk: how the Picture records of the outputs begin, the bytes
+// of one row of the plane, and the bytes of one item.
 #[derive(Drop)]
 struct Buffers {
-    head: Vec<u8>,
+    heads: Vec<Head>,
     line: Vec<u8>,
     room: Vec<u8>,
 }
 
 impl Buffers {
-    fn new(alloc: Global, width: u32, height: u32) -> Result<Buffers, NoMemory>
-        requires narrow { width ≤ 8192 }
-        requires low { height ≤ 8192 }
-        ensures head { IfOk result (λ b. b.head.items ≡ picture_head width height) }
-        ensures line { IfOk result (λ b. vec_len b.line ≡ 3 * width) }
+    fn new(alloc: Global, setup: &Setup) -> Result<Buffers, NoMemory>
+        requires { Fits setup.now }
+        ensures heads { IfOk result (λ b. b.heads.items ≡ map head_of setup.now.outputs) }
+        ensures line { IfOk result (λ b. vec_len b.line ≡ 3 * setup.now.width) }
         ensures room { IfOk result (λ b. vec_len b.room ≡ MAX_PIECE) }
     {
-        let head = picture_head(alloc, width, height)?;
-        let line = vec![in alloc; 0u8; 3 * width as usize]?;
+        let heads = picture_heads(alloc, setup.outputs.items(), setup.width, setup.height)?;
+        let line = vec![in alloc; 0u8; 3 * setup.width as usize]?;
         let room = vec![in alloc; 0u8; MAX_PIECE as usize]?;
-        Ok(Buffers { head, line, room })
+        Ok(Buffers { heads, line, room })
     }
 }
 
@@ -70,7 +69,7 @@ fn after_feed(fault: FeedFault) -> Outcome
 fn run_items<F: Feed, P: FramePort, K: Sink>(
     setup: &Setup,
     desk: &mut Desk,
-    head: &[u8],
+    heads: &[Head],
     line: &mut [u8],
     room: &mut [u8],
     feed: &mut F,
@@ -81,7 +80,7 @@ fn run_items<F: Feed, P: FramePort, K: Sink>(
     requires stands { Stands setup.now desk.old (P.state port.old) (opening setup.now) }
     requires fresh { (picture_of desk.old).painted ≡ 0 }
     requires fits { Fits setup.now }
-    requires head { head.now ≡ picture_head setup.now.width setup.now.height }
+    requires heads { heads.now ≡ map head_of setup.now.outputs }
     requires line { length line.old ≡ 3 * setup.now.width }
     requires room { length room.old ≡ MAX_PIECE }
     requires guests { F.guests feed.old ≡ length setup.now.guests }
@@ -104,7 +103,7 @@ fn run_items<F: Feed, P: FramePort, K: Sink>(
             Err(fault) => return after_feed(fault),
         };
         let piece = &room[..next.len];
-        match write_item(desk, &next.item, piece, port, head, line, out) {
+        match write_item(desk, &next.item, piece, port, heads, line, out) {
             Ok(()) => {}
             Err(_) => return Outcome::WriteFault,
         }
@@ -147,7 +146,7 @@ pub fn desk_run<F: Feed, P: FramePort, K: Sink>(
     ensures write_later { K.faults out.old ≤ K.faults out.new }
     ensures write { result ≡ Outcome.WriteFault → Rose (K.faults out.old) (K.faults out.new) }
 {
-    let buffers = match Buffers::new(alloc, setup.width, setup.height) {
+    let buffers = match Buffers::new(alloc, setup) {
         Ok(buffers) => buffers,
         Err(_) => return Outcome::NoMemory,
     };
@@ -156,11 +155,11 @@ pub fn desk_run<F: Feed, P: FramePort, K: Sink>(
         Err(_) => return Outcome::NoMemory,
     };
     let Buffers {
-        head,
+        heads,
         mut line,
         mut room,
     } = buffers;
     run_items(
-        setup, &mut desk, &head, &mut line, &mut room, feed, port, out, bounds,
+        setup, &mut desk, &heads, &mut line, &mut room, feed, port, out, bounds,
     )
 }

@@ -1,22 +1,27 @@
-use Rattle.std.proofs.Common.{sym, ◌∙◌, ap, ℕ, arith}
-use Rattle.record_format.specs.OutputGrammar.{picture_head}
+use Rattle.std.proofs.Common.{map, sym, ◌∙◌, ap, arith}
 use Rattle.compositor.specs.PictureView.{PictureView}
-use Rattle.replay_driver.proofs.DeskFacts.{width_is, height_is}
+use Rattle.replay_driver.specs.PictureRecords.{head_of}
+use Rattle.replay_driver.proofs.DeskFacts.{width_is, height_is, outputs_is, outputs_placed}
 use Rattle.replay_driver.proofs.ItemWriteLemmas.{item_failed, item_going, item_snap, item_ended, snap_is, end_is, wrote_of}
 use Rattle.replay_driver.proofs.item_writer.write_item.Goals as goal
 
-pub put_picture-requires-clause-head : goal.put_picture-requires-clause-head
-put_picture-requires-clause-head g c =
+pub put_pictures-requires-clause-heads : goal.put_pictures-requires-clause-heads
+put_pictures-requires-clause-heads g c =
     let suits = c.requires.suits in
     let stands = (c.in-Ok-Snap.ensures.writes suits.setup suits.state suits.stands).stands in
-    suits.head_is ∙ ap (λ (w : ℕ). picture_head w suits.setup.height) (sym (width_is suits.setup _ _ _ stands) ∙ ap (λ (v : PictureView). v.width) (sym c.picture.ensures))
-    ∙ ap (picture_head c.picture.result.now.width) (sym (height_is suits.setup _ _ _ stands) ∙ ap (λ (v : PictureView). v.height) (sym c.picture.ensures))
+    suits.heads_are ∙ ap (map head_of) (sym (outputs_is suits.setup _ _ _ stands) ∙ ap (λ (v : PictureView). v.outputs) (sym c.picture.ensures))
 
-pub put_picture-requires-clause-line : goal.put_picture-requires-clause-line
-put_picture-requires-clause-line g c =
+pub put_pictures-requires-clause-line : goal.put_pictures-requires-clause-line
+put_pictures-requires-clause-line g c =
     let suits = c.requires.suits in
     let stands = (c.in-Ok-Snap.ensures.writes suits.setup suits.state suits.stands).stands in
     omega (arith, suits.line_is, width_is suits.setup _ _ _ stands, ap (λ (v : PictureView). v.width) c.picture.ensures)
+
+pub put_pictures-requires-clause-high : goal.put_pictures-requires-clause-high
+put_pictures-requires-clause-high g c =
+    let suits = c.requires.suits in
+    let stands = (c.in-Ok-Snap.ensures.writes suits.setup suits.state suits.stands).stands in
+    omega (arith, suits.fits.height, height_is suits.setup _ _ _ stands, ap (λ (v : PictureView). v.height) c.picture.ensures)
 
 pub returns-in-Ok-Going-clause-writes : goal.returns-in-Ok-Going-clause-writes
 returns-in-Ok-Going-clause-writes g c = λ setup state stands.
@@ -24,11 +29,13 @@ returns-in-Ok-Going-clause-writes g c = λ setup state stands.
 
 pub returns-in-Ok-Snap-clause-writes : goal.returns-in-Ok-Snap-clause-writes
 returns-in-Ok-Snap-clause-writes g c = λ setup state stands.
+    let suits = c.requires.suits in
+    let placed = outputs_placed suits.setup _ _ _ suits.fits (c.in-Ok-Snap.ensures.writes suits.setup suits.state suits.stands).stands in
     let snap = snap_is c.args.item.now (sym c.in-Ok-Snap.field-0-is ∙ c.in-Ok-Snap.ensures.answer) in
-    item_snap setup _ c.args.item.now c.args.piece.now state _ _ _ _ c.picture.result.now c.put_picture.result _ _ _ _ _ _ _ _ (c.in-Ok-Snap.ensures.writes setup state stands) snap
-    c.picture.ensures (c.in-Ok-Snap.ensures.drawn snap setup state stands)
-    (wrote_of c.put_picture.result _ _ _ c.put_picture.ensures.ok c.put_picture.ensures.err) c.put_picture.ensures.cause
-    (λ kept. g.met.K.Sink.keeps_on _ _ _ kept c.put_picture.ensures.keeps)
+    item_snap setup _ c.args.item.now c.args.piece.now state _ _ _ _ c.picture.result.now c.put_pictures.result _ _ _ _ _ _ _ _ (c.in-Ok-Snap.ensures.writes setup state stands) snap
+    c.picture.ensures (c.in-Ok-Snap.ensures.drawn snap setup state stands) placed
+    (wrote_of c.put_pictures.result _ _ _ c.put_pictures.ensures.ok c.put_pictures.ensures.err) c.put_pictures.ensures.cause
+    (λ kept. g.met.K.Sink.keeps_on _ _ _ kept c.put_pictures.ensures.keeps)
 
 pub returns-in-Ok-Ended-clause-writes : goal.returns-in-Ok-Ended-clause-writes
 returns-in-Ok-Ended-clause-writes g c = λ setup state stands.

@@ -1,13 +1,12 @@
-use Rattle.std.proofs.Common.{◌≡◌, ◌*◌, ◌≤◌, length, take}
-use Rattle.std.specs.List.{flat_map}
+use Rattle.std.proofs.Common.{◌≡◌, ◌*◌, ◌≤◌, length}
 use Rattle.io_ports.specs.Content.{Grows}
-use Rattle.record_format.specs.OutputGrammar.{rgb}
+use Rattle.replay_driver.proofs.OutputRows.{bytes_to}
 use Rattle.replay_driver.proofs.picture_writer.put_rows.Given as goal
 
-abbrev pub invariant-loop-y : goal.invariant-loop-y
-invariant-loop-y g l = record {
-  line : length l.line ≡ 3 * l.picture.width;
-  grown : Grows (g.K.Sink.written l.fn.out) (flat_map rgb (take (l.y * l.picture.width) l.picture.pixels)) (g.K.Sink.written l.out);
+abbrev pub invariant-loop-n : goal.invariant-loop-n
+invariant-loop-n g l = record {
+  line : length l.line ≡ 3 * l.output.w;
+  grown : Grows (g.K.Sink.written l.fn.out) (bytes_to l.picture l.output l.n) (g.K.Sink.written l.out);
   keeps : g.K.Sink.keeps l.fn.out l.out;
   later : g.K.Sink.faults l.fn.out ≤ g.K.Sink.faults l.out;
 }

@@ -65,7 +65,8 @@ write_item-requires-clause-suits g c = record {
   setup = c.args.setup.now;
   state = (run c.args.setup.now c.loop-n.invariant.so_far.given (opening c.args.setup.now)).desk;
   stands = c.loop-n.invariant.so_far.stands;
-  head_is = c.requires.head;
+  fits = c.requires.fits;
+  heads_are = c.requires.heads;
   line_is = c.loop-n.invariant.line;
 }
 
