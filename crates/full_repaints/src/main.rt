@@ -1,6 +1,7 @@
 //! Shows one desktop of windows over and over, and prints a checksum of the last picture. It is what
 //! `bench/full_repaints` measures, and its scene is that of `bench/full_repaints_rust`: 4 guests, with as
 //! many windows as it is told, which they make by messages and whose contents are read from their frames.
+//! The desktop has one output, or two of half its width that lie side by side; the picture is the same.
 #![tactic(auto)]
 
 ghost use Rattle.std.specs.Prelude.{◌≤◌, IfOk, IfSome};
@@ -55,7 +56,7 @@ fn make_windows(alloc: Global, screen: &mut Screen, windows: u32) -> Result<(), 
 fn repaint(alloc: Global, asked: Asked) -> Result<u64, NoMemory>
     requires { asked.windows ≤ 1024 }
 {
-    let mut screen = Screen::open(alloc, &setup(alloc)?)?;
+    let mut screen = Screen::open(alloc, &setup(alloc, asked.outputs)?)?;
     greet(alloc, &mut screen)?;
     make_windows(alloc, &mut screen, asked.windows)?;
     for _ in 0..asked.frames {
@@ -64,41 +65,52 @@ fn repaint(alloc: Global, asked: Asked) -> Result<u64, NoMemory>
     Ok(checksum(screen.picture()))
 }
 
-// What the program is asked to do: how many pictures it draws, and of how many windows.
+// What the program is asked to do: how many pictures it draws, of how many windows, and on how many outputs.
 #[derive(Clone, Copy)]
 struct Asked {
     frames: u32,
     windows: u32,
+    outputs: u32,
 }
 
-// What two words ask, if they are numbers and there may be so many windows.
-fn asked_by(frames: &str, windows: &str) -> Option<Asked>
+// What three words ask, if they are numbers and there may be so many windows and outputs.
+fn asked_by(frames: &str, windows: &str, outputs: &str) -> Option<Asked>
     ensures { IfSome result (λ asked. asked.windows ≤ 1024) }
 {
     let frames = frames.parse::<u32>().ok()?;
     let windows = windows.parse::<u32>().ok()?;
-    if windows <= MOST_WINDOWS {
-        Some(Asked { frames, windows })
+    let outputs = outputs.parse::<u32>().ok()?;
+    if windows <= MOST_WINDOWS && (outputs == 1 || outputs == 2) {
+        Some(Asked {
+            frames,
+            windows,
+            outputs,
+        })
     } else {
         None
     }
 }
 
-// What the words of the program ask, if there are two.
+// What the words of the program ask, if there are three.
 fn read_words(rt: &HostRuntime) -> io::Result<Option<Asked>>
     ensures { IfOk result (λ words. IfSome words (λ asked. asked.windows ≤ 1024)) }
 {
     let mut words = env::args(rt)?.skip(1);
-    let (frames, windows, more) = (words.next(), words.next(), words.next());
-    match (frames, windows, more) {
-        (Some(frames), Some(windows), None) => Ok(asked_by(&frames, &windows)),
+    let (frames, windows) = (words.next(), words.next());
+    let (outputs, more) = (words.next(), words.next());
+    match (frames, windows, outputs, more) {
+        (Some(frames), Some(windows), Some(outputs), None) => {
+            Ok(asked_by(&frames, &windows, &outputs))
+        }
         _ => Ok(None),
     }
 }
 
 fn main(rt: HostRuntime) -> io::Result<ExitCode> {
     let Some(asked) = read_words(&rt)? else {
-        eprintln!(rt; "usage: full_repaints FRAMES WINDOWS, and at most {MOST_WINDOWS} windows")?;
+        eprintln!(rt;
+            "usage: full_repaints FRAMES WINDOWS 1|2, and at most {MOST_WINDOWS} windows"
+        )?;
         return Ok(ExitCode::from(2));
     };
     match repaint(rt.alloc(), asked) {

@@ -1,12 +1,18 @@
 // The scene: windows of four guests, few and large or many and small, some of which overlap, and some of
 // which lie partly off the desktop, and what the guests do to show them.
-ghost use Rattle.std.specs.Prelude.{◌≡◌, ◌<◌, ◌≤◌, ◌*◌, None, length, vec_len, IfOk};
-ghost use Rattle.desk_laws.specs.Rules.{first_broken};
+ghost use Rattle.std.specs.Prelude.{◌≡◌, ◌<◌, ◌≤◌, ◌*◌, None, length, vec_len, true, pos, IfOk};
+ghost use Rattle.std.specs.List.{list_all};
+ghost use Rattle.desk_laws.specs.Rules.{within, is_output, share_none, first_broken};
 
 use byteorder::{ByteOrder, LittleEndian};
-use desk_laws::{GuestSetup, Guests, Name, PAGE_WORDS, Setup};
+use desk_laws::{GuestSetup, Guests, Name, Outputs, PAGE_WORDS, Pairs, Setup};
 use gui_num::{Colour, NoMemory, Rect};
 use std::alloc::Global;
+
+// The columns and rows of the desktop.
+const WIDTH: u32 = 1920;
+
+const HEIGHT: u32 = 1080;
 
 // How many guests there are.
 pub(crate) const GUESTS: u32 = 4;
@@ -35,8 +41,8 @@ const SHMIMAGE: u32 = 136;
 
 const WINDOW_DUMP: u32 = 147;
 
-// The desktop and its guests.
-pub(crate) fn setup(alloc: Global) -> Result<Setup, NoMemory>
+// The desktop with two outputs, or with one, and its guests.
+pub(crate) fn setup(alloc: Global, outputs: u32) -> Result<Setup, NoMemory>
     ensures rules { IfOk result (λ setup. first_broken setup ≡ None) }
     ensures guests { IfOk result (λ setup. length setup.guests ≡ 4) }
     ensures pages { IfOk result (λ setup. setup.pages ≡ 4096) }
@@ -47,15 +53,47 @@ pub(crate) fn setup(alloc: Global) -> Result<Setup, NoMemory>
     guests.push(guest(0x73d216, b"green"))?;
     guests.push(guest(0xedd400, b"yellow"))?;
     Ok(Setup {
-        width: 1920,
-        height: 1080,
+        width: WIDTH,
+        height: HEIGHT,
         border: 2,
         pages: 4096,
         tiles: 4096,
         percent: 90,
         background: Colour(0x202830),
         guests,
+        outputs: shown_parts(alloc, outputs)?,
+        clip: 1,
+        denied: Pairs::new(alloc),
     })
+}
+
+// The halves of the desktop side by side where two outputs are asked for, and else the whole of it.
+fn shown_parts(alloc: Global, outputs: u32) -> Result<Outputs, NoMemory>
+    ensures count { IfOk result (λ parts. within 1 8 (length parts) ≡ true) }
+    ensures inside { IfOk result (λ parts. list_all (is_output 1920 1080) parts ≡ true) }
+    ensures apart { IfOk result (λ parts. share_none parts ≡ true) }
+{
+    let mut parts = Outputs::new(alloc);
+    if outputs == 2 {
+        parts.push(part(0, WIDTH / 2))?;
+        parts.push(part(WIDTH / 2, WIDTH / 2))?;
+    } else {
+        parts.push(part(0, WIDTH))?;
+    }
+    Ok(parts)
+}
+
+// So many columns of the desktop from the column `x` on.
+fn part(x: u32, columns: u32) -> Rect
+    requires { x ≤ 8192 }
+    ensures { result ≡ record { x = pos x; y = pos 0; w = columns; h = 1080 } }
+{
+    Rect {
+        x: x as i32,
+        y: 0,
+        w: columns,
+        h: HEIGHT,
+    }
 }
 
 // A guest with this label colour and name.
