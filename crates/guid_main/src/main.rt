@@ -2,11 +2,15 @@
 #![tactic(auto)]
 
 #[cfg(test)]
+mod clipboard_tests;
+#[cfg(test)]
 mod frame_tests;
 #[cfg(test)]
 mod guest_tests;
 #[cfg(test)]
 mod message_tests;
+#[cfg(test)]
+mod output_tests;
 mod run;
 mod status;
 mod streams;

@@ -13,7 +13,7 @@ pub enum Status {
     Done,
     /// The words after the program's name have no known form.
     Usage,
-    /// The setup breaks the rule of this number, 1 to 14.
+    /// The setup breaks the rule of this number, 1 to 14 or 17 to 22.
     BadConfig { rule: u8 },
     /// The record has this fault; all that stands before it was done and written.
     BadRecord { fault: RecordFault },
