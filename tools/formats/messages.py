@@ -80,10 +80,10 @@ class Data:
 
 
 class Digest(Data):
-    """Data that is only shown: whole where it is short, else its length and a hash."""
+    """Data that is only shown: whole where it is short or one byte many times, else its length and a hash."""
 
     def show(self, body):
-        if len(body) <= 64:
+        if len(body) <= 64 or len(set(body)) == 1:
             return super().show(body)
         return f"bytes={len(body)} sha256={hashlib.sha256(body).hexdigest()[:16]}"
 

@@ -80,11 +80,12 @@ def read_all(stream, length):
 
 
 class Teller:
-    """Tells the items of one output as lines of text."""
+    """Tells the items of one output as lines of text, with so many pictures for each Snap."""
 
-    def __init__(self, widest_map=64, colours=False):
+    def __init__(self, widest_map=64, colours=False, outputs=1):
         self.widest_map = widest_map
         self.colours = colours
+        self.outputs = outputs
         self.greeted = set()
         self.pictures = 0
         self.finished = False
@@ -119,7 +120,7 @@ class Teller:
         picture = Picture(post.data)
         self.pictures += 1
         digest = hashlib.sha256(post.data).hexdigest()[:16]
-        lines = [f"picture {self.pictures}: {picture.width} by {picture.height}, sha256 {digest}"]
+        lines = [f"picture {self.picture_name()}: {picture.width} by {picture.height}, sha256 {digest}"]
         small = max(picture.width, picture.height) <= self.widest_map
         letters = picture.map() if small else None
         if letters:
@@ -127,6 +128,13 @@ class Teller:
         if self.colours:
             return lines + [f"    {colour:06x} {count}" for colour, count in picture.colours()]
         return lines
+
+    def picture_name(self):
+        """The number of the picture, and with several outputs those of its Snap and its output, from 1."""
+        if self.outputs == 1:
+            return str(self.pictures)
+        snap, output = divmod(self.pictures - 1, self.outputs)
+        return f"{self.pictures} (snap {snap + 1}, output {output + 1})"
 
     def summary(self, post):
         self.finished = True

@@ -1,9 +1,11 @@
 """The record: its items as bytes, both ways, with the faults that a reader finds."""
+import itertools
 import re
 import struct
 from collections import namedtuple
 
-MAGIC = b"QGR1"
+# The four bytes of each version.
+MAGICS = {1: b"QGR1", 2: b"QGR2", 3: b"QGR3"}
 CONFIG, BYTES, CLOSED, STORE, KEY, MOVE, PRESS, COMMAND, SNAP, END, LOST = range(1, 12)
 LONGEST_PIECE = 65536
 
@@ -31,20 +33,44 @@ SETUP_FIELDS = ("width", "height", "border", "pages", "tiles", "percent", "backg
 SETUP_USUAL = {"border": 2, "pages": 8192, "tiles": 4096, "percent": 90, "background": 0}
 SETUP_FORM = "<7IB"
 Guest = namedtuple("Guest", "name colour")
+Output = namedtuple("Output", "x y w h")
+OUTPUT_FORM = "<iiII"
+Pair = namedtuple("Pair", "source target")
 
 
 class Setup:
-    """A record's configuration: `values` by field, and the guests."""
+    """A record's configuration: `values` by field, the guests, the outputs, the clipboard's revision and the denied
+    pairs. Without outputs the one output is the whole plane."""
 
-    def __init__(self, values, guests):
+    def __init__(self, values, guests, outputs=None, clip=1, denied=()):
         self.values = dict(values)
         self.guests = list(guests)
+        self.outputs = [self.plane()] if outputs is None else list(outputs)
+        self.clip = clip
+        self.denied = list(denied)
 
-    def spell(self):
+    def plane(self):
+        return Output(0, 0, self.values["width"], self.values["height"])
+
+    def version(self):
+        """The lowest version that has this setup."""
+        if self.clip != 1 or self.denied:
+            return 3
+        return 1 if self.outputs == [self.plane()] else 2
+
+    def spell(self, version=None):
+        """The bytes of the setup, in its own version or, where a wrong record is wanted, in another one."""
+        version = version or self.version()
         numbers = [self.values[field] for field in SETUP_FIELDS]
-        parts = [MAGIC, bytes([CONFIG]), struct.pack(SETUP_FORM, *numbers, len(self.guests))]
+        parts = [MAGICS[version], bytes([CONFIG]), struct.pack(SETUP_FORM, *numbers, len(self.guests))]
         for guest in self.guests:
             parts.append(struct.pack("<IB", guest.colour, len(guest.name)) + guest.name)
+        if version > 1:
+            parts.append(bytes([len(self.outputs)]))
+            parts.extend(struct.pack(OUTPUT_FORM, *output) for output in self.outputs)
+        if version > 2:
+            parts.append(bytes([self.clip, len(self.denied)]))
+            parts.extend(bytes(pair) for pair in self.denied)
         return b"".join(parts)
 
     def broken_rule(self):
@@ -73,7 +99,26 @@ class Setup:
             (12, "each name is a to z, and then a to z, 0 to 9 and -", all(map(is_name, names))),
             (13, "no two names are equal", len(set(names)) == len(names)),
             (14, "no guest has the background's colour", background not in colours),
+            (17, "there are 1 to 8 outputs", 1 <= len(self.outputs) <= 8),
+            (18, "each output has pixels and lies in the plane", all(map(self.has_output, self.outputs))),
+            (19, "no two outputs share a pixel", not any(share(*two) for two in itertools.combinations(self.outputs, 2))),
+            (20, "the clipboard's revision is 1 or 2", self.clip in (1, 2)),
+            (21, "each pair names two different guests", all(map(self.has_pair, self.denied))),
+            (22, "the pairs rise, and no two are equal", all(a < b for a, b in zip(self.denied, self.denied[1:]))),
         )
+
+    def has_output(self, output):
+        x, y, w, h = output
+        return min(x, y) >= 0 and min(w, h) >= 1 and x + w <= self.values["width"] and y + h <= self.values["height"]
+
+    def has_pair(self, pair):
+        return max(pair) < len(self.guests) and pair.source != pair.target
+
+
+def share(one, other):
+    """Whether two outputs share a pixel."""
+    across = one.x < other.x + other.w and other.x < one.x + one.w
+    return across and one.y < other.y + other.h and other.y < one.y + one.h
 
 
 def is_name(name):
@@ -139,6 +184,7 @@ class Reader:
         self.loose = loose
         self.at = 0
         self.item_at = 0
+        self.version = 1
 
     def take(self, count, what):
         if len(self.data) - self.at < count:
@@ -153,19 +199,38 @@ class Reader:
 
     def setup(self):
         """The magic and the configuration."""
-        if self.take(4, "its first four bytes") != MAGIC:
-            raise RecordFault(0, "magic", "a record begins with QGR1")
+        magic = self.take(4, "its first four bytes")
+        if magic not in MAGICS.values():
+            raise RecordFault(0, "magic", "a record begins with QGR1, QGR2 or QGR3")
+        self.version = next(number for number, known in MAGICS.items() if known == magic)
         kind = self.kind()
         if kind != CONFIG:
             raise RecordFault(self.item_at, "kind", f"the first item is the configuration (1), not {kind}")
         numbers = struct.unpack(SETUP_FORM, self.take(struct.calcsize(SETUP_FORM), "the configuration"))
-        if numbers[-1] not in range(1, 17) and not self.loose:
-            raise RecordFault(self.item_at, "bad configuration, rule 1", "there are 1 to 16 guests")
-        setup = Setup(zip(SETUP_FIELDS, numbers), [self.guest() for _ in range(numbers[-1])])
-        if setup.broken_rule() and not self.loose:
-            number, sentence = setup.broken_rule()
-            raise RecordFault(self.item_at, f"bad configuration, rule {number}", sentence)
+        self.expect(1, "there are 1 to 16 guests", 1 <= numbers[-1] <= 16)
+        guests = [self.guest() for _ in range(numbers[-1])]
+        outputs = self.outputs() if self.version > 1 else None
+        clip, denied = self.clipboard() if self.version > 2 else (1, ())
+        setup = Setup(zip(SETUP_FIELDS, numbers), guests, outputs, clip, denied)
+        self.expect(*setup.broken_rule() or (0, "", True))
+        if setup.version() != self.version and not self.loose:
+            raise RecordFault(self.item_at, "range", f"version {setup.version()} has this configuration")
         return setup
+
+    def expect(self, rule, sentence, holds=False):
+        if not holds and not self.loose:
+            raise RecordFault(self.item_at, f"bad configuration, rule {rule}", sentence)
+
+    def outputs(self):
+        count = self.take(1, "the number of outputs")[0]
+        self.expect(17, "there are 1 to 8 outputs", 1 <= count <= 8)
+        size = struct.calcsize(OUTPUT_FORM)
+        return [Output(*struct.unpack(OUTPUT_FORM, self.take(size, "an output"))) for _ in range(count)]
+
+    def clipboard(self):
+        """The revision and the denied pairs."""
+        clip, count = self.take(2, "the clipboard's revision and the number of pairs")
+        return clip, [Pair(*self.take(2, "a pair")) for _ in range(count)]
 
     def guest(self):
         colour, length = struct.unpack("<IB", self.take(5, "a guest"))

@@ -7,11 +7,11 @@ from .lines import (
     MARK, Wrong, bytes_of, colour_of, hex_of, keyed_words, number_of, only_keys, plain_words, quoted, told, tokens_of,
 )
 from .messages import AGENT_BY_KIND, AGENT_BY_NAME, show_version, spell_header, spell_version
-from .record import COMMANDS, SETUP_FIELDS, SETUP_USUAL, Guest, Item, Reader, RecordFault, Setup
+from .record import COMMANDS, SETUP_FIELDS, SETUP_USUAL, Guest, Item, Output, Pair, Reader, RecordFault, Setup
 
 COMMAND_FIELDS = {4: ("x", "y"), 5: ("width", "height")}
 U32 = 2**32 - 1
-LINES = "config guest bytes closed lost store key move press command snap end raw"
+LINES = "config guest output clip deny bytes closed lost store key move press command snap end raw"
 ELEMENTS = "version message hex " + " ".join(AGENT_BY_NAME)
 
 
@@ -46,6 +46,10 @@ class TextReader:
         self.loose = loose
         self.values = None
         self.guests = []
+        self.version = None
+        self.outputs = []
+        self.revision = None
+        self.denied = []
         self.setup = None
         self.block = None
         self.ended = False
@@ -82,12 +86,8 @@ class TextReader:
         if word.key is not None or word.value not in LINES.split():
             raise Wrong(f"a line begins with one of {LINES}")
         name = word.value
-        if name == "config":
-            self.config(rest)
-        elif name == "guest":
-            self.guest(rest)
-        elif name == "raw":
-            self.raw(rest)
+        if name in ("config", "guest", "output", "clip", "deny", "raw"):
+            getattr(self, name)(rest)
         else:
             self.begin_items()
             if self.ended and not self.loose:
@@ -103,7 +103,9 @@ class TextReader:
         if self.values is not None or self.parts:
             raise Wrong("config stands once, and first")
         _, values = plain_words(tokens, ())
-        only_keys(values, SETUP_FIELDS)
+        only_keys(values, SETUP_FIELDS + ("version",))
+        if "version" in values:
+            self.version = number_of(values.pop("version"), "version", 1, 3)
         self.values = dict(SETUP_USUAL)
         for field, value in values.items():
             read = colour_of(value, field) if field == "background" else number_of(value, field, 0, U32)
@@ -112,14 +114,50 @@ class TextReader:
             if field not in self.values:
                 raise Wrong(f"{field}= is missing")
 
-    def guest(self, tokens):
+    def in_setup(self, name):
         if self.values is None or self.setup:
-            raise Wrong("guest lines stand right behind config")
+            raise Wrong(f"{name} lines stand behind config and before the first item")
+
+    def guest(self, tokens):
+        self.in_setup("guest")
         (name, colour), values = plain_words(tokens, ("the name", "the colour"))
         only_keys(values, ())
         if len(bytes_of(name)) > 255 or len(self.guests) == 255:
             raise Wrong("there is room for 255 guests with names of 255 bytes")
         self.guests.append(Guest(bytes_of(name), colour_of(colour, "the colour")))
+
+    def output(self, tokens):
+        self.in_setup("output")
+        (x, y, w, h), values = plain_words(tokens, ("x", "y", "the width", "the height"))
+        only_keys(values, ())
+        if len(self.outputs) == 255:
+            raise Wrong("there is room for 255 outputs")
+        corner = signed_of(x, "x"), signed_of(y, "y")
+        self.outputs.append(Output(*corner, number_of(w, "the width", 0, U32), number_of(h, "the height", 0, U32)))
+
+    def clip(self, tokens):
+        self.in_setup("clip")
+        (revision,), values = plain_words(tokens, ("the revision",))
+        only_keys(values, ())
+        if self.revision is not None:
+            raise Wrong("clip stands once")
+        self.revision = number_of(revision, "the revision", 0, 255)
+
+    def deny(self, tokens):
+        self.in_setup("deny")
+        (source, target), values = plain_words(tokens, ("the guest that a paste comes from", "the one that it goes to"))
+        only_keys(values, ())
+        if len(self.denied) == 255:
+            raise Wrong("there is room for 255 pairs")
+        self.denied.append(Pair(self.guest_number(source), self.guest_number(target)))
+
+    def whole_setup(self):
+        """The configuration of all lines. Pairs are sorted; with --loose they stand as they came, and so do no outputs
+        where a version is told."""
+        outputs = self.outputs or ([] if self.version and self.loose else None)
+        denied = self.denied if self.loose else sorted(self.denied)
+        clip = 1 if self.revision is None else self.revision
+        return Setup(self.values, self.guests, outputs, clip, denied)
 
     def begin_items(self):
         """Writes the configuration before the first item."""
@@ -127,11 +165,13 @@ class TextReader:
             return
         if self.values is None:
             raise Wrong("config stands first")
-        self.setup = Setup(self.values, self.guests)
+        self.setup = self.whole_setup()
         broken = self.setup.broken_rule()
         if broken and not self.loose:
             raise Wrong(f"config breaks rule {broken[0]}: {broken[1]}")
-        self.parts.append(self.setup.spell())
+        if self.version not in (None, self.setup.version()) and not self.loose:
+            raise Wrong(f"version {self.setup.version()} has this configuration")
+        self.parts.append(self.setup.spell(self.version))
 
     # -- items
 
@@ -329,7 +369,7 @@ def text_of(data, loose=False, offsets=False):
     lines = []
     try:
         setup = reader.setup()
-        lines.extend(setup_lines(setup))
+        lines.extend(setup_lines(setup, reader.version))
         item_lines(reader, setup, lines, offsets)
     except RecordFault as fault:
         if not loose:
@@ -352,13 +392,20 @@ def item_lines(reader, setup, lines, offsets):
         lines.extend(lines_of_item(item, streams))
 
 
-def setup_lines(setup):
+def setup_lines(setup, version):
+    """The configuration of a record of this version, which is told where the lines alone would give another one."""
     words = [
         f"{field}={setup.values[field]:06x}" if field == "background" else f"{field}={setup.values[field]}"
         for field in SETUP_FIELDS
     ]
-    guests = [f"guest {name_text(guest.name)} {guest.colour:06x}" for guest in setup.guests]
-    return ["config " + " ".join(words)] + guests
+    is_told = version != setup.version() or not setup.outputs
+    lines = ["config " + " ".join(words + [f"version={version}"] * is_told)]
+    lines += [f"guest {name_text(guest.name)} {guest.colour:06x}" for guest in setup.guests]
+    if version > 1 and (is_told or setup.outputs != [setup.plane()]):
+        lines += ["output {} {} {} {}".format(*output) for output in setup.outputs]
+    if setup.clip != 1:
+        lines.append(f"clip {setup.clip}")
+    return lines + ["deny {} {}".format(*pair) for pair in setup.denied]
 
 
 def name_text(name):

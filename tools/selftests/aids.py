@@ -1,4 +1,5 @@
 """Checks tools/record and tools/show against hand-computed bytes. Needs nothing else."""
+import hashlib
 import io
 import os
 import struct
@@ -78,6 +79,40 @@ WRONG_EVENTS = (
     ("08 06 00000000 00000000", "range"),
     ("08 02 01000000 00000000", "range"),
     ("08 03 00000000 01000000", "range"),
+)
+
+# A plane of 12 by 6 pixels and the guest red, up to what the second version has behind the guests.
+PLANE = "51475232 01 0c000000 06000000 01000000 00200000 00100000 5a000000 00000000 01 0000ff00 03 726564"
+PLANE_TEXT = "config width=12 height=6 border=1\nguest red ff0000\n"
+LEFT, RIGHT = "00000000 00000000 05000000 06000000", "07000000 00000000 05000000 06000000"
+WHOLE = "00000000 00000000 0c000000 06000000"
+TWO_OUTPUTS = bytes.fromhex(PLANE + "02" + LEFT + RIGHT + "0a")
+PLANE_AS_OUTPUT = bytes.fromhex(PLANE + "01" + WHOLE + "0a")
+
+
+def third(text):
+    """A record of the third version from the digits of one of the second."""
+    return bytes.fromhex("51475233" + text[8:] + "0a")
+
+
+# The same plane with the guests red and green in the third version, up to the clipboard.
+PAIR_PLANE = PLANE[:-22] + " 02 0000ff00 03 726564 00ff0000 05 677265656e 01" + WHOLE
+PAIR_TEXT = PLANE_TEXT + "guest green 00ff00\n"
+PLAIN_CLIPBOARD = third(PLANE + "01" + WHOLE + "01 00")
+
+# Configurations that are wrong in what the later versions have, and the rule that they break.
+WRONG_SETUPS = (
+    (bytes.fromhex(PLANE + "00"), 17),
+    (bytes.fromhex(PLANE + "09"), 17),
+    (bytes.fromhex(PLANE + "01 00000000 00000000 0d000000 06000000"), 18),
+    (bytes.fromhex(PLANE + "01 00000000 00000000 00000000 06000000"), 18),
+    (bytes.fromhex(PLANE + "01 ffffffff 00000000 05000000 06000000"), 18),
+    (bytes.fromhex(PLANE + "02" + LEFT + "04" + RIGHT[2:]), 19),
+    (third(PLANE + "01" + WHOLE + "03 00"), 20),
+    (third(PLANE + "01" + WHOLE + "01 01 0000"), 21),
+    (third(PLANE + "01" + WHOLE + "01 01 0001"), 21),
+    (third(PAIR_PLANE + "01 02 0100 0001"), 22),
+    (third(PAIR_PLANE + "01 02 0001 0001"), 22),
 )
 
 DESK = "config width=8 height=6 border=1\nguest red ff0000\n"
@@ -204,6 +239,18 @@ class Records(unittest.TestCase):
             worked = {"empty_desk.txt": EMPTY_DESK, "first_window.txt": FIRST_WINDOW}
             self.assertEqual(data, worked.get(name, data))
 
+    def test_versions(self):
+        for lines, data in (
+            (PLANE_TEXT + "output 0 0 5 6\noutput 7 0 5 6\n", TWO_OUTPUTS),
+            (PLANE_TEXT + "clip 2\n", third(PLANE + "01" + WHOLE + "02 00")),
+            (PLANE_TEXT + "output 0 0 5 6\noutput 7 0 5 6\nclip 2\n", third(PLANE + "02" + LEFT + RIGHT + "02 00")),
+            (PAIR_TEXT + "deny green red\ndeny red green\n", third(PAIR_PLANE + "01 02 0001 0100")),
+        ):
+            printed = self.both_ways(lines + "end\n", data)
+            self.assertNotIn("version", printed)
+        # what a lower version has isn't written in a higher one
+        self.assertEqual(record_text.record_of(PLANE_TEXT + "output 0 0 12 6\nclip 1\nend\n")[:4], b"QGR1")
+
     def test_text_faults(self):
         for text, line, words in (
             ("snap\nend\n", 1, "config stands first"),
@@ -232,6 +279,16 @@ class Records(unittest.TestCase):
             ("config width=8\n", 1, "height= is missing"),
             ("config width=8 height=six\n", 1, "six"),
             (DESK + 'bytes 0 wmname 1 title="a\nend\n', 3, "blank is missing"),
+            (DESK + "output 0 0 9 6\nend\n", 4, "rule 18"),
+            (DESK + "output 0 0 5 6\noutput 4 0 4 6\nend\n", 5, "rule 19"),
+            (DESK + "output 0 0 5\nend\n", 3, "height is missing"),
+            (DESK + "clip 3\nend\n", 4, "rule 20"),
+            (DESK + "clip 2\nclip 2\nend\n", 4, "clip stands once"),
+            (DESK + "deny red red\nend\n", 4, "rule 21"),
+            (DESK + "deny red blue\nend\n", 3, "no guest blue"),
+            (PAIR_TEXT + "deny 0 1\ndeny 0 1\nend\n", 6, "rule 22"),
+            (DESK + "snap\nclip 2\nend\n", 4, "before the first item"),
+            ("config width=8 height=6 version=3\nguest red ff0000\nend\n", 3, "version 1 has"),
         ):
             with self.assertRaises(record_text.TextFault, msg=text) as caught:
                 record_text.record_of(text)
@@ -243,7 +300,7 @@ class Records(unittest.TestCase):
         for data, offset, kind in (
             (b"", 0, "short"),
             (b"QGR", 0, "short"),
-            (b"QGR2" + EMPTY_DESK[4:], 0, "magic"),
+            (b"QGR4" + EMPTY_DESK[4:], 0, "magic"),
             (EMPTY_DESK[:4], 4, "short"),
             (EMPTY_DESK[:4] + b"\2", 4, "kind"),
             (EMPTY_DESK[:30], 4, "short"),
@@ -259,6 +316,13 @@ class Records(unittest.TestCase):
             (EMPTY_DESK[:37] + b"\0", 4, "short"),
             (EMPTY_DESK[:33] + b"\x11", 4, "bad configuration, rule 1"),
             (EMPTY_DESK[:13] + b"\x11" + EMPTY_DESK[14:], 4, "bad configuration, rule 5"),
+            (TWO_OUTPUTS[:42], 4, "short"),
+            (TWO_OUTPUTS[:74], 4, "short"),
+            (PLANE_AS_OUTPUT, 4, "range"),
+            (PLAIN_CLIPBOARD, 4, "range"),
+            (PLAIN_CLIPBOARD[:59], 4, "short"),
+            (PLAIN_CLIPBOARD[:60], 4, "short"),
+            *((data, 4, f"bad configuration, rule {rule}") for data, rule in WRONG_SETUPS),
         ):
             with self.assertRaises(RecordFault, msg=data) as caught:
                 record_text.text_of(data)
@@ -302,6 +366,24 @@ class Outputs(unittest.TestCase):
         ):
             data = b"".join(b"\1\2" + struct.pack("<I", len(body)) + body for body in (greeting, numbers(reply)))
             self.assertEqual(shown(data)[1], "reply 2 " + wanted)
+
+    def test_clipboard_data(self):
+        for body, wanted in (
+            (b"abc", 'text="abc"'),
+            (b"\0\xff", "hex=00ff"),
+            (b"a" * 256000, "fill=61 count=256000"),
+            (b"ab" * 33, "bytes=66 sha256=" + hashlib.sha256(b"ab" * 33).hexdigest()[:16]),
+        ):
+            reply = struct.pack("<III", 140, 1, len(body)) + body
+            data = b"\1\0\x10\0\0\0" + numbers("08 06 18 01") + b"\1\0" + struct.pack("<I", len(reply)) + reply
+            self.assertEqual(shown(data)[1], "reply 0 CLIPBOARD_DATA 1 " + wanted)
+
+    def test_several_outputs(self):
+        teller = output.Teller(0, outputs=2)
+        pictures = EMPTY_OUTPUT[:160] * 3
+        lines = [line for post in output.posts_of(io.BytesIO(pictures)) for line in teller.lines(post)]
+        names = ["1 (snap 1, output 1)", "2 (snap 1, output 2)", "3 (snap 2, output 1)"]
+        self.assertEqual([line.split(":")[0] for line in lines], ["picture " + name for name in names])
 
     def test_endings(self):
         for data, wanted in (

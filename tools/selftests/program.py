@@ -12,7 +12,7 @@ from formats import record_text
 from formats.output import PICTURE, posts_of
 from formats.picture import Picture
 from selftests.aids import EMPTY_DESK as USUAL_DESK, EMPTY_OUTPUT, EXAMPLES, FIRST_WINDOW, TOOLS, WINDOW_OUTPUT
-from selftests.aids import WRONG_EVENTS, shown
+from selftests.aids import PLAIN_CLIPBOARD, PLANE_AS_OUTPUT, WRONG_EVENTS, WRONG_SETUPS, shown
 
 # Set by tools/selftest.
 PROGRAM = ""
@@ -66,13 +66,17 @@ class Statuses(unittest.TestCase):
             record = bytearray(EMPTY_DESK)
             record[at] = byte
             self.ends(replay(bytes(record)), 3, f"bad configuration: rule {rule}")
+        for record, rule in WRONG_SETUPS:
+            self.ends(replay(record), 3, f"bad configuration: rule {rule}")
 
     def test_bad_record(self):
         picture = EMPTY_OUTPUT[:160]
         for record, offset, kind, written in (
             (b"", 0, "short", b""),
             (b"QGR", 0, "short", b""),
-            (b"QGR2" + EMPTY_DESK[4:], 0, "magic", b""),
+            (b"QGR4" + EMPTY_DESK[4:], 0, "magic", b""),
+            (PLANE_AS_OUTPUT, 4, "range", b""),
+            (PLAIN_CLIPBOARD, 4, "range", b""),
             (EMPTY_DESK[:4] + b"\2", 4, "kind", b""),
             (EMPTY_DESK[:43], 43, "short", picture),
             (EMPTY_DESK[:43] + b"\xff", 43, "kind", picture),
@@ -175,22 +179,85 @@ USER_INPUT_PIXELS = (
 )
 
 
+# What is told of two_outputs.txt: a picture of each output.
+TWO_OUTPUTS_LINES = """\
+reply 0 version 1.7
+reply 0 xconf width=12 height=6 depth=24 mem=1
+reply 0 FOCUS 1 type=in mode=0 detail=3
+reply 0 KEYMAP_NOTIFY 0 keys=none
+picture 1: 5 by 6, sha256 *
+    .....
+    .RRRR
+    .R---
+    .R---
+    .RRRR
+    .....
+    .=000000 (14) R=ff0000 (10) -=808080 (6)
+picture 2: 5 by 6, sha256 *
+    .....
+    RRRR.
+    ---R.
+    ---R.
+    RRRR.
+    .....
+    .=000000 (14) R=ff0000 (10) -=808080 (6)
+summary items=4 messages=2 glances=0 painted=*
+"""
+
+# What is told of clipboard.txt: red is asked, and its three letters are pasted into green's window, once.
+CLIPBOARD_LINES = """\
+reply 0 version 1.7
+reply 0 xconf width=16 height=8 depth=24 mem=1
+reply 0 FOCUS 1 type=in mode=0 detail=3
+reply 0 KEYMAP_NOTIFY 0 keys=none
+reply 1 version 1.7
+reply 1 xconf width=16 height=8 depth=24 mem=1
+reply 0 CLIPBOARD_REQ 1
+reply 0 FOCUS 1 type=out mode=0 detail=3
+reply 1 FOCUS 1 type=in mode=0 detail=3
+reply 1 KEYMAP_NOTIFY 0 keys=none
+reply 1 CLIPBOARD_DATA 1 text="abc"
+picture 1: 16 by 8, sha256 *
+    ................
+    .RRRRR..GGGGG...
+    .R---R..G---G...
+    .R---R..G---G...
+    .R---R..G---G...
+    .RRRRR..GGGGG...
+    ................
+    ................
+    .=000000 (78) -=808080 (18) R=ff0000 (16) G=00ff00 (16)
+summary items=12 messages=5 glances=0 painted=*
+"""
+
+
 class Samples(unittest.TestCase):
     """Whole outputs, worked by hand."""
+
+    def tells(self, name, wanted):
+        """Replays an example, and compares what it tells. A * stands for the rest of a line."""
+        ran = replay(record_text.record_of(sample(name)))
+        self.assertEqual((ran.returncode, ran.stderr), (0, b""))
+        lines = shown(ran.stdout)
+        self.assertEqual(len(lines), len(wanted.splitlines()))
+        for line, told in zip(lines, wanted.splitlines()):
+            self.assertTrue(line.startswith(told[:-1]) if told.endswith("*") else line == told, line)
+        return ran.stdout
 
     def test_first_window(self):
         self.assertEqual(replay(FIRST_WINDOW).stdout, WINDOW_OUTPUT)
 
     def test_user_input(self):
-        ran = replay(record_text.record_of(sample("user_input.txt")))
-        self.assertEqual((ran.returncode, ran.stderr), (0, b""))
-        lines = shown(ran.stdout)
-        self.assertEqual(len(lines), len(USER_INPUT_LINES.splitlines()))
-        for line, wanted in zip(lines, USER_INPUT_LINES.splitlines()):
-            self.assertTrue(line.startswith(wanted[:-1]) if wanted.endswith("*") else line == wanted, line)
-        pictures = [Picture(post.data).rows() for post in posts_of(io.BytesIO(ran.stdout)) if post.kind == PICTURE]
+        written = self.tells("user_input.txt", USER_INPUT_LINES)
+        pictures = [Picture(post.data).rows() for post in posts_of(io.BytesIO(written)) if post.kind == PICTURE]
         for number, x, y, colour in USER_INPUT_PIXELS:
             self.assertEqual(pictures[number - 1][y][3 * x:3 * x + 3].hex(), colour, (number, x, y))
+
+    def test_two_outputs(self):
+        self.tells("two_outputs.txt", TWO_OUTPUTS_LINES)
+
+    def test_clipboard(self):
+        self.tells("clipboard.txt", CLIPBOARD_LINES)
 
 
 class Memory(unittest.TestCase):
