@@ -6,3 +6,4 @@ pub mod ClipboardLemmas
 pub mod OtherGuests
 pub mod PieceLemmas
 pub mod SoundRuns
+pub mod ClipBytes

@@ -1,6 +1,7 @@
 pub mod Pieces
 pub mod GrantedContent
 pub mod ClipboardLaw
+pub mod Pastes
 pub mod WorkedRows
 pub mod WorkedStreams
 pub mod WorkedFrames

@@ -4,6 +4,7 @@ ghost use Rattle.desk_laws.specs.Others.{OthersStay};
 ghost use Rattle.desk_laws.specs.Sound.{OpeningIsSound, StepsKeepSound, RunsAreSound};
 ghost use Rattle.run_laws.specs.ClipboardLaw.{PastesToTheFocus, PastesNothingElse, StrangersLeaveIt, DataIsHeld, LongDataIsLost, LongDataIsAlike};
 ghost use Rattle.run_laws.specs.GrantedContent.{GrantsCarryNoMore};
+ghost use Rattle.run_laws.specs.Pastes.{BytesStayInTheClipboard, PastesAreExact};
 ghost use Rattle.run_laws.specs.Pieces.{PiecesJoin};
 
 /// Does nothing. Its contract says that it doesn't matter in which pieces a guest's bytes come: two
@@ -64,4 +65,13 @@ pub fn law_of_clipboard()
     ensures held { DataIsHeld }
     ensures lost { LongDataIsLost }
     ensures alike { LongDataIsAlike }
+{}
+
+/// Does nothing. Its contract says that the clipboard's bytes are handed out exactly at a paste chord while
+/// there are a focus, a content and no denied pair, to the focus. Two states that differ in those bytes alone
+/// give the same posts, inputs and readings at every item that doesn't hand them out, and differ afterwards
+/// in those bytes at most.
+pub fn law_clip_bytes()
+    ensures pastes { PastesAreExact }
+    ensures bytes { BytesStayInTheClipboard }
 {}

@@ -6,7 +6,7 @@ mod law;
 mod worked;
 
 pub use law::{
-    law_ended_session, law_granted, law_of_clipboard, law_of_others, law_of_pieces,
+    law_clip_bytes, law_ended_session, law_granted, law_of_clipboard, law_of_others, law_of_pieces,
     law_of_sound_states,
 };
 pub use worked::{
