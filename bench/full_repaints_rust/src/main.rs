@@ -149,7 +149,7 @@ fn main() -> ExitCode {
         return usage();
     };
     let windows: Vec<Window> = (0..windows).map(|k| Window::new(k, windows)).collect();
-    let mut picture = vec![BACKGROUND; WIDTH * HEIGHT];
+    let mut picture = vec![0; WIDTH * HEIGHT];
     let (mut left, mut next) = (Vec::new(), Vec::new());
     for _ in 0..frames {
         match way.as_str() {
