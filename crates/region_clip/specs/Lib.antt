@@ -1,1 +1,3 @@
+pub mod RectCuts
+pub mod Regions
 pub mod Spans
