@@ -1,0 +1,13 @@
+//! The bytes that wait for a guest until its socket takes them, and the reading of a change of its
+//! frames.
+#![tactic(auto)]
+
+mod outbox;
+mod page;
+mod row;
+
+pub use outbox::{MAX_WAITING, Outbox};
+pub use page::{PageRead, page_of};
+
+#[cfg(test)]
+mod tests;
