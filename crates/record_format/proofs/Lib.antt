@@ -12,3 +12,6 @@ pub mod OutputLemmas
 pub mod ManyLemmas
 pub mod LaterLemmas
 pub mod BehindLemmas
+pub mod SpanLemmas
+pub mod MadeLemmas
+pub mod MadeReading

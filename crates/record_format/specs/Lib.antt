@@ -8,3 +8,5 @@ pub mod ItemFields
 pub mod PostFields
 pub mod RecordLaws
 pub mod OutputRecords
+pub mod MadeRecord
+pub mod MadeLaws

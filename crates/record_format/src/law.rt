@@ -1,5 +1,6 @@
 // What is known of the grammars.
 ghost use Rattle.record_format.specs.RecordLaws.{ItemsAreRead, WholeRecordsAreRead, CutRecordsAreShort, ReadRecordsWereSpelled, ReadItemsFit};
+ghost use Rattle.record_format.specs.MadeLaws.{MadeRecordsAreRead, HaveLengths, TenRounds, FirstPicture};
 ghost use Rattle.record_format.specs.OutputRecords.{PostsAreRead, GuestRecordsAreRead, ReadPostsWereSpelled};
 
 /// Does nothing. Its contract says that a record is read as it was spelled: a setup that breaks no rule
@@ -23,4 +24,14 @@ pub fn law_of_posts()
     ensures read { PostsAreRead }
     ensures guest { GuestRecordsAreRead }
     ensures spelled { ReadPostsWereSpelled }
+{}
+
+/// Does nothing. Its contract says of the record that `put_made` writes for a number, whatever the number: it is
+/// a whole record, and is read as the setup and the items that it was made of. And it says what a small one is, as it
+/// was worked out by hand: its length, the items of ten rounds, and where the first picture comes.
+pub fn law_of_made_records()
+    ensures read { MadeRecordsAreRead }
+    ensures lengths { HaveLengths }
+    ensures ten { TenRounds }
+    ensures picture { FirstPicture }
 {}

@@ -5,8 +5,8 @@ ghost use Rattle.record_format.specs.ItemSpellings.{item_spelling};
 ghost use Rattle.record_format.specs.ItemFields.{HasFields};
 
 use crate::{
-    ConfigRead, Post, config_len, fixed_len, item_of, item_within, post_of, put_config,
-    read_config, spell_item,
+    ConfigRead, MadeFault, Post, config_len, fixed_len, item_of, item_within, post_of, put_config,
+    put_made, read_config, spell_item,
 };
 use desk_laws::{GuestSetup, Guests, Item, MAX_GUESTS, MAX_PAGES, Name, Outputs, Pairs, Setup};
 use gui_num::{Colour, Rect};
@@ -346,5 +346,26 @@ fn posts(rt: HostRuntime) -> Result<(), Fail> {
     assert_eq!(rt; post_of(&bytes[8..]), Some((summary, 33)));
     assert!(rt; post_of(&bytes[..7]).is_none());
     assert!(rt; post_of(&bytes[8..40]).is_none());
+    Ok(())
+}
+
+// The end of the record of two rounds: a report of 16 by 16 pixels from (39, 22) on by the first guest, a click, the
+// last picture and the end.
+const END_OF_TWO_ROUNDS: [u8; 46] = [
+    2, 0, 28, 0, 0, 0, 136, 0, 0, 0, 1, 0, 0, 0, 16, 0, 0, 0, 39, 0, 0, 0, 22, 0, 0, 0, 16, 0, 0,
+    0, 16, 0, 0, 0, 7, 1, 1, 0, 0, 7, 0, 1, 0, 0, 9, 10,
+];
+
+// A record is made of a number, whole, or up to the write that fails.
+#[test]
+fn made_from_a_number(rt: HostRuntime) -> Result<(), Fail> {
+    let alloc = rt.alloc();
+    let mut out = MemSink::new(alloc, &[])?;
+    assert!(rt; put_made(alloc, 2, &mut out).is_ok());
+    assert_eq!(rt; out.bytes().len(), 608);
+    assert!(rt; out.bytes().ends_with(&END_OF_TWO_ROUNDS));
+    let mut cut = MemSink::new(alloc, &[2])?;
+    assert_eq!(rt; put_made(alloc, 2, &mut cut), Err(MadeFault::Failed));
+    assert_eq!(rt; cut.bytes().len(), 34);
     Ok(())
 }
