@@ -23,7 +23,7 @@ use Rattle.desk_laws.specs.Scene.{Scene, SceneOutcome, Input, Took, Given, Closi
 use Rattle.desk_laws.specs.State.{DeskState, StepOutcome, session_of, count_item, and_next, step_after}
 use Rattle.desk_laws.specs.Settle.{focus_now, settle, settled, grab_checked}
 use Rattle.desk_laws.specs.Events.{route, is_chord, key_by, key_to, plain_key}
-use Rattle.desk_laws.specs.Steps.{step, event, take_unit, take_units, unit_of_open, unit_done, unit_effect, unit_told, end_told, with_rest, rest_of_open, bytes_of_open, end_of_open, store_of_open, went, ends, clip_of_unit, clip_after, picture_post}
+use Rattle.desk_laws.specs.Steps.{step, event, take_unit, take_units, unit_of_open, unit_done, unit_effect, unit_told, end_told, with_rest, rest_of_open, bytes_of_open, end_of_open, store_of_open, went, ends, clip_of_unit, clip_after}
 use Rattle.gui_wire.specs.AgentMessages as agent
 use Rattle.gui_wire.specs.AgentMessages.{AgentMessage, reading}
 use Rattle.run_laws.specs.GrantedContent.{IsCarried, IsChordFor, IsGrantedAt, IfGiven}

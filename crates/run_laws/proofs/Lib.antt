@@ -7,3 +7,4 @@ pub mod OtherGuests
 pub mod PieceLemmas
 pub mod SoundRuns
 pub mod ClipBytes
+pub mod HearLemmas

@@ -11,3 +11,4 @@ pub mod WorkedCauses
 pub mod WorkedInput
 pub mod WorkedOutputs
 pub mod WorkedClipboard
+pub mod OthersHear

@@ -4,6 +4,7 @@ ghost use Rattle.desk_laws.specs.Others.{OthersStay};
 ghost use Rattle.desk_laws.specs.Sound.{OpeningIsSound, StepsKeepSound, RunsAreSound};
 ghost use Rattle.run_laws.specs.ClipboardLaw.{PastesToTheFocus, PastesNothingElse, StrangersLeaveIt, DataIsHeld, LongDataIsLost, LongDataIsAlike};
 ghost use Rattle.run_laws.specs.GrantedContent.{GrantsCarryNoMore};
+ghost use Rattle.run_laws.specs.OthersHear.{EndsStayAtHome, OthersHearNews};
 ghost use Rattle.run_laws.specs.Pastes.{BytesStayInTheClipboard, PastesAreExact};
 ghost use Rattle.run_laws.specs.Pieces.{PiecesJoin};
 
@@ -25,9 +26,13 @@ pub fn law_ended_session()
 /// Does nothing. Its contract says that an item of one guest (its bytes, whatever they are, their end,
 /// a change of its frames, its lost link) leaves of every other guest the windows with all that is
 /// kept of them, the session with its end and the bytes that wait, and the frames, as they were. So
-/// another guest's end changes nobody else's windows.
+/// another guest's end changes nobody else's windows. No item ends the session of another guest than its
+/// own: a malformed message ends its guest alone. All that an item of one guest makes another hear is that a
+/// window of its own gained or lost focus or hover, and the keyboard's state.
 pub fn law_of_others()
-    ensures { OthersStay }
+    ensures stay { OthersStay }
+    ensures ends { EndsStayAtHome }
+    ensures news { OthersHearNews }
 {}
 
 /// Does nothing. Its contract says of every state that a run of any items reaches: no two windows on
