@@ -33,3 +33,4 @@ pub mod WindowTurns
 pub mod WindowEnds
 pub mod EventTurns
 pub mod EventItems
+pub mod AloneLemmas

@@ -1,14 +1,13 @@
 -- Outputs in the plane.
-use Rattle.std.proofs.Common.{◌≡◌, ℕ, ◌≤◌, Bool, true, false, ◌&&◌, ◌||◌, List, [], ◌∷◌, ap, arith, refl}
-use Rattle.std.specs.Prelude.{int_le, ℤ, pos}
-use Rattle.std.specs.List.{All, list_all, list_any}
-use Rattle.std.proofs.lemmas.Bool.{and_parts, leb-true}
+use Rattle.std.proofs.Common.{◌≡◌, ℕ, ◌≤◌, Bool, true, false, ◌||◌, List, [], ◌∷◌, arith, refl}
+use Rattle.std.specs.List.{All, list_all}
+use Rattle.std.proofs.lemmas.Bool.{and_parts}
 use Rattle.std.proofs.lemmas.Int.{ints}
 use Rattle.std.proofs.lemmas.List.Elements.{All-nil, All-cons, All-head, All-tail, All-weaker}
 use Rattle.gui_num.specs.declared.Rect.{Rect}
 use Rattle.gui_num.specs.declared.Point.{Point}
-use Rattle.gui_num.specs.Rects.{has, on_side, right, bottom}
-use Rattle.desk_laws.specs.Outputs.{is_in_output, lies_in}
+use Rattle.gui_num.specs.Rects.{has}
+use Rattle.desk_laws.specs.Outputs.{is_in_output}
 use Rattle.desk_laws.specs.Rules.{is_output}
 use Rattle.compositor.specs.PictureView.{LiesIn}
 use Rattle.input_router.specs.SeatView.{IsPixel}

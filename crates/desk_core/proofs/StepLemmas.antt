@@ -1,5 +1,5 @@
 -- Items, each with what it does.
-use Rattle.std.proofs.Common.{◌≡◌, ◌≢◌, ℕ, true, Option, Some, None, List, [], ◌∷◌, map, ◌+◌, ◌*◌, refl, sym, ◌∙◌, ap, subst}
+use Rattle.std.proofs.Common.{◌≡◌, ◌≢◌, ℕ, true, Option, Some, None, List, [], ◌∷◌, map, ◌+◌, refl, sym, ◌∙◌, ap, subst}
 use Rattle.std.proofs.lemmas.Bool.{eqb-true}
 use Rattle.gui_num.specs.declared.Rect.{Rect}
 use Rattle.desk_laws.specs.declared.cause.Cause.{Cause}

@@ -19,3 +19,4 @@ pub mod PieceSteps
 pub mod ItemSteps
 pub mod EventItems
 pub mod EventSteps
+pub mod AloneSteps

@@ -7,9 +7,10 @@ ghost use Rattle.desk_laws.specs.Frames.{PortState, counted};
 ghost use Rattle.desk_laws.specs.Endings.{is_item_of};
 ghost use Rattle.desk_laws.specs.Scene.{Input};
 ghost use Rattle.desk_laws.specs.State.{DeskState, opening};
-ghost use Rattle.desk_laws.specs.Steps.{take_bytes, take_store, end_session};
+ghost use Rattle.desk_laws.specs.Steps.{step, take_bytes, take_store, end_session};
 ghost use Rattle.frame_pool.specs.Ports.{AreZeros, ChangesFrames, HasExtent, KeepsExtent};
 ghost use Rattle.compositor.specs.PictureView.{shown_area};
+ghost use Rattle.desk_core.specs.AloneSteps.{StepsAlone};
 ghost use Rattle.desk_core.specs.Painting.{plane};
 ghost use Rattle.desk_core.specs.DeskView.{guests_of, pages_of, picture_of, session_in};
 ghost use Rattle.desk_core.specs.DeskStands.{IsAtRest, Stands, StepsTo, counted_in, stepped_of, summary_of};
@@ -264,6 +265,10 @@ impl Desk {
     /// to. Of the port a guest's frames are read where this guest says that they changed, and changed
     /// at Store, unless its session has ended.
     ///
+    /// Each guest is told what it would be told with nobody else on the desktop, and its part of the desk
+    /// becomes what it would become then: by its own messages, the words that are read of its frames, and
+    /// the inputs that the step grants it.
+    ///
     /// An item of one guest leaves the sessions, the windows and the frames of all others as they are.
     /// In each picture no content of one window touches that of another, and override-redirect windows
     /// lie in an output with their borders, and take no more than their percent of the largest one.
@@ -277,6 +282,7 @@ impl Desk {
         requires range { FitsItem (guests_of self.old) (pages_of self.old) item.now (length piece.now) }
         requires port { HasExtent P.guests P.pages port.old (guests_of self.old) (pages_of self.old) }
         ensures steps { (setup : Setup) (state : DeskState) → Stands setup self.old (P.state port.old) state → Steps O.takes out.old out.new setup item.now piece.now state self.old self.new (P.state port.new) }
+        ensures alone { (setup : Setup) (state : DeskState) → Stands setup self.old (P.state port.old) state → StepsAlone O.takes out.old out.new setup (step setup item.now piece.now state) self.old self.new }
         ensures others { (guest other : ℕ) → is_item_of guest item.now ≡ true → (other ≡ guest → ⊥) → LeavesGuest other self.old self.new (P.state port.old) (P.state port.new) }
         ensures answer { result ≡ stepped_of item.now }
         ensures sizes { KeepsExtent guests_of pages_of self.old self.new }

@@ -1,4 +1,4 @@
-use Rattle.std.proofs.Common.{◌≡◌, List, length, refl, subst, rules}
+use Rattle.std.proofs.Common.{refl, subst, rules}
 use Rattle.desk_laws.specs.declared.item.Item.{Item}
 use Rattle.desk_laws.specs.Events.{route}
 use Rattle.desk_laws.specs.Scene.{perform}
