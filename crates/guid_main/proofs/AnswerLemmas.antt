@@ -5,7 +5,6 @@ use Rattle.std.proofs.Math.Seq.{drop-append_seam, drop-append-add}
 use Rattle.desk_laws.specs.declared.setup.Setup.{Setup}
 use Rattle.desk_laws.specs.declared.item.Item.TheVariants as items
 use Rattle.desk_laws.specs.Items.{FedItem}
-use Rattle.io_ports.specs.Content.{Grows, GrowsPart}
 use Rattle.io_ports.specs.Counts.{Rose}
 use Rattle.io_ports.specs.Feeds.{Coming}
 use Rattle.io_ports.specs.declared.feed.FeedFault.{FeedFault}
@@ -22,10 +21,10 @@ use Rattle.replay_driver.specs.FeedView.{FeedView}
 use Rattle.guid_main.specs.declared.status.Status.{Status}
 use Rattle.guid_main.specs.declared.status.Status.TheVariants as statuses
 use Rattle.replay_driver.specs.FeedOutcomes.{EndsLast, EndsNowhereElse, FeedCall, Ran}
-use Rattle.guid_main.specs.Answers.{SaysBehind, SaysBy, Says, most_items, items_len, record_len, record_behind, status_of, after_config}
+use Rattle.guid_main.specs.Answers.{GivesAll, GivesSome, SaysBehind, SaysBy, Says, most_items, items_len, record_len, record_behind, status_of, after_config}
 use Rattle.record_format.specs.Config.{Fault, fault, config_of, config_len}
 use Rattle.replay_driver.specs.FeedRuns.{FeedGives, Fed, NoEnd}
-use Rattle.replay_driver.specs.Outputs.{output, output_of}
+use Rattle.replay_driver.specs.Gives.{Gives, GivesPart}
 use Rattle.record_format.specs.Readings.{Took, Spells, SpellsNothing, Reads}
 use Rattle.record_format.specs.RecordGrammar.{Items, Ends, Faulty, Record, Run, BadStart, alone, with_front, items_from, started, record_of, whole}
 use Rattle.record_format.proofs.ReadConfigLemmas.{config_takes}
@@ -45,14 +44,14 @@ from_none guests pages at = refl
 whole_faulty : (given : List FedItem) (f : RecordFault) → whole (record { each = given; ending = Faulty f }) ≡ given
 whole_faulty given f = append-nil given
 
-same_output : (setup : Setup) (found known : Items) (given : List FedItem) → found ≡ known → whole known ≡ given → output setup given ≡ output_of (Run setup found)
-same_output setup found known given is all = ap (output setup) (sym all) ∙ ap (λ (f : Items). output setup (whole f)) (sym is)
+same_items : (found known : Items) (given : List FedItem) → found ≡ known → whole known ≡ given → given ≡ whole found
+same_items found known given is all = sym all ∙ ap whole (sym is)
 
-grows_so : (before after : Option (List ℕ)) (xs ys : List ℕ) → xs ≡ ys → Grows before xs after → Grows before ys after
-grows_so before after xs ys is grown = subst (λ (l : List ℕ). Grows before l after) is grown
+gives_so : (setup : Setup) (before after : Option (List ℕ)) (xs ys : List FedItem) → xs ≡ ys → Gives setup xs before after → Gives setup ys before after
+gives_so setup before after xs ys is gives = subst (λ (l : List FedItem). Gives setup l before after) is gives
 
-part_so : (before after : Option (List ℕ)) (xs ys : List ℕ) → xs ≡ ys → GrowsPart before xs after → GrowsPart before ys after
-part_so before after xs ys is part = subst (λ (l : List ℕ). GrowsPart before l after) is part
+part_so : (setup : Setup) (before after : Option (List ℕ)) (xs ys : List FedItem) → xs ≡ ys → GivesPart setup xs before after → GivesPart setup ys before after
+part_so setup before after xs ys is part = subst (λ (l : List FedItem). GivesPart setup l before after) is part
 
 -- what is left, where the front was taken
 left_behind : (bytes : List ℕ) (left : Option (List ℕ)) (taken rest : List ℕ) (n : ℕ) → bytes ≡ taken ++ rest → left ≡ Some rest → n ≡ length taken → left ≡ Some (drop n bytes)
@@ -67,7 +66,7 @@ record_fed left faults keeps coming count a b given last fed = fed_so (FeedCall 
 
 done_says : {S : Type 0} (left : S → Option (List ℕ)) (faults : S → ℕ) (keeps : S → S → Type 0) (setup : Setup) (a b : FeedView S) (bytes : List ℕ) (given : List FedItem) (before after : Option (List ℕ))
     → a.state ≡ states.Going → a.guests ≡ length setup.guests → a.pages ≡ setup.pages → a.at ≡ config_len setup → left a.source ≡ Some bytes
-    → Fed (FeedGives left faults keeps) a given None b → EndsLast given → length given ≤ most_items → Grows before (output setup given) after
+    → Fed (FeedGives left faults keeps) a given None b → EndsLast given → length given ≤ most_items → Gives setup given before after
     → SaysBehind setup bytes (left b.source) statuses.Done before after
 done_says left faults keeps setup a b bytes given before after going guests pages at told fed ends short grown =
     let took = fed_end left faults keeps a b ends.front bytes going told ends.no_end (subst (λ (l : List FedItem). Fed (FeedGives left faults keeps) a l None b) ends.is fed) in
@@ -78,34 +77,34 @@ done_says left faults keeps setup a b bytes given before after going guests page
         omega (arith, ap (λ (f : Items). length f.each) found, ap length ends.is, length-append ends.front (alone items.End ∷ []), short),
       ),
       left_behind bytes (left b.source) took.taken took.rest _ took.split took.is_left (ap (λ (f : Items). items_len setup (whole f)) found ∙ ap length (sym took.holds.0)),
-      grows_so before after _ _ (same_output setup _ _ given found (sym ends.is)) grown,
+      gives_so setup before after _ _ (same_items _ _ given found (sym ends.is)) grown,
     )
 
 fault_says : {S : Type 0} (left : S → Option (List ℕ)) (faults : S → ℕ) (keeps : S → S → Type 0) (setup : Setup) (a b : FeedView S) (bytes : List ℕ) (given : List FedItem) (f : RecordFault) (before after : Option (List ℕ))
     → a.state ≡ states.Going → a.guests ≡ length setup.guests → a.pages ≡ setup.pages → a.at ≡ config_len setup → left a.source ≡ Some bytes
-    → Fed (FeedGives left faults keeps) a given (Some (feeds.Bad f)) b → NoEnd given → length given < most_items → Grows before (output setup given) after
+    → Fed (FeedGives left faults keeps) a given (Some (feeds.Bad f)) b → NoEnd given → length given < most_items → Gives setup given before after
     → SaysBehind setup bytes (left b.source) (statuses.BadRecord f) before after
 fault_says left faults keeps setup a b bytes given f before after going guests pages at told fed none short grown =
     let found : items_from (length setup.guests) setup.pages (config_len setup) bytes ≡ record { each = given; ending = Faulty f } =
     (λ i. items_from (sym guests i) (sym pages i) (sym at i) bytes) ∙ fed_fault left faults keeps a b given f bytes going told none fed in (
       (ap (λ (x : Items). x.ending) found, omega (arith, ap (λ (x : Items). length x.each) found, short)),
-      grows_so before after _ _ (same_output setup _ _ given found (whole_faulty given f)) grown,
+      gives_so setup before after _ _ (same_items _ _ given found (whole_faulty given f)) grown,
     )
 
 read_says : {S : Type 0} (left : S → Option (List ℕ)) (faults : S → ℕ) (keeps : S → S → Type 0) (setup : Setup) (a b : FeedView S) (bytes : List ℕ) (given : List FedItem) (before after : Option (List ℕ))
     → a.state ≡ states.Going → a.guests ≡ length setup.guests → a.pages ≡ setup.pages → a.at ≡ config_len setup → left a.source ≡ Some bytes
-    → Fed (FeedGives left faults keeps) a given (Some feeds.Failed) b → NoEnd given → Grows before (output setup given) after
+    → Fed (FeedGives left faults keeps) a given (Some feeds.Failed) b → NoEnd given → Gives setup given before after
     → SaysBehind setup bytes (left b.source) statuses.ReadFault before after
 read_says left faults keeps setup a b bytes given before after going guests pages at told fed none grown =
     let took = fed_failed left faults keeps a b given bytes going told none fed in
     took_so bytes (left b.source) _ _ (λ taken is.
     let found : items_from (length setup.guests) setup.pages (config_len setup) taken ≡ record { each = given; ending = Faulty (fault took.0 kinds.Short) } =
     (λ i. items_from (sym guests i) (sym pages i) (sym at i) taken) ∙ is in
-    grows_so before after _ _ (same_output setup _ _ given found (whole_faulty given (fault took.0 kinds.Short))) grown) took.1
+    gives_so setup before after _ _ (same_items _ _ given found (whole_faulty given (fault took.0 kinds.Short))) grown) took.1
 
 write_says : {S : Type 0} (left : S → Option (List ℕ)) (faults : S → ℕ) (keeps : S → S → Type 0) (setup : Setup) (a b : FeedView S) (bytes : List ℕ) (given : List FedItem) (before after : Option (List ℕ))
     → a.state ≡ states.Going → a.guests ≡ length setup.guests → a.pages ≡ setup.pages → a.at ≡ config_len setup → left a.source ≡ Some bytes
-    → Fed (FeedGives left faults keeps) a given None b → EndsNowhereElse given → GrowsPart before (output setup given) after
+    → Fed (FeedGives left faults keeps) a given None b → EndsNowhereElse given → GivesPart setup given before after
     → SaysBehind setup bytes (left b.source) statuses.WriteFault before after
 write_says left faults keeps setup a b bytes given before after going guests pages at told fed (inl none) part =
     let gone = fed_going left faults keeps a b given bytes going told none fed in
@@ -113,17 +112,17 @@ write_says left faults keeps setup a b bytes given before after going guests pag
     let found : items_from (length setup.guests) setup.pages (config_len setup) taken ≡ record { each = given; ending = Faulty (fault b.at kinds.Short) } =
     (λ i. items_from (sym guests i) (sym pages i) (sym at i) taken) ∙ ap (items_from a.guests a.pages a.at) (sym (append-nil taken)) ∙ is.1 []
     ∙ ap (with_front given) (from_none a.guests a.pages b.at) ∙ ap (λ (l : List FedItem). record { each = l; ending = Faulty (fault b.at kinds.Short) }) (append-nil given) in
-    part_so before after _ _ (same_output setup _ _ given found (whole_faulty given (fault b.at kinds.Short))) part) gone.took
+    part_so setup before after _ _ (same_items _ _ given found (whole_faulty given (fault b.at kinds.Short))) part) gone.took
 write_says left faults keeps setup a b bytes given before after going guests pages at told fed (inr ends) part =
     let took = fed_end left faults keeps a b ends.front bytes going told ends.no_end (subst (λ (l : List FedItem). Fed (FeedGives left faults keeps) a l None b) ends.is fed) in
     took_so bytes (left b.source) _ _ (λ taken is.
     let found : items_from (length setup.guests) setup.pages (config_len setup) taken ≡ record { each = ends.front; ending = Ends } =
     (λ i. items_from (sym guests i) (sym pages i) (sym at i) taken) ∙ ap (items_from a.guests a.pages a.at) (sym (append-nil taken)) ∙ is.1 [] in
-    part_so before after _ _ (same_output setup _ _ given found (sym ends.is)) part) took
+    part_so setup before after _ _ (same_items _ _ given found (sym ends.is)) part) took
 
 long_says : {S : Type 0} (left : S → Option (List ℕ)) (faults : S → ℕ) (keeps : S → S → Type 0) (setup : Setup) (a b : FeedView S) (bytes : List ℕ) (given : List FedItem) (before after : Option (List ℕ))
     → a.state ≡ states.Going → a.guests ≡ length setup.guests → a.pages ≡ setup.pages → a.at ≡ config_len setup → left a.source ≡ Some bytes
-    → Fed (FeedGives left faults keeps) a given None b → NoEnd given → length given ≡ most_items → Grows before (output setup given) after
+    → Fed (FeedGives left faults keeps) a given None b → NoEnd given → length given ≡ most_items → Gives setup given before after
     → SaysBehind setup bytes (left b.source) statuses.TooLong before after
 long_says left faults keeps setup a b bytes given before after going guests pages at told fed none long grown =
     let gone = fed_going left faults keeps a b given bytes going told none fed in
@@ -134,7 +133,7 @@ long_says left faults keeps setup a b bytes given before after going guests page
     let firsts : take most_items (items_from (length setup.guests) setup.pages (config_len setup) bytes).each ≡ given = ap (take most_items) each ∙ take_at given behind.each most_items long in (
       omega (arith, ap length each, length-append given behind.each, long),
       left_behind bytes (left b.source) gone.took.taken gone.took.rest _ gone.took.split gone.took.is_left (ap (items_len setup) firsts ∙ ap length (sym gone.took.holds.0)),
-      grows_so before after _ _ (ap (output setup) (sym firsts)) grown,
+      gives_so setup before after _ _ (sym firsts) grown,
     )
 
 -- what an outcome says of the bytes behind the setup
@@ -190,18 +189,17 @@ says_behind setup taken rest bytes left (statuses.BadRecord f) before after spli
     let is : record_of bytes ≡ record_behind setup rest = ap record_of split ∙ behind_setup setup taken rest spells in
     subst (λ (r : Record). SaysBy (λ bs. r) record_len bytes left (statuses.BadRecord f) before after) (sym is) says
 says_behind setup taken rest bytes left statuses.ReadFault before after split spells used says =
-    took_behind setup taken rest left bytes (λ (r : Record). Grows before (output_of r) after) split spells says
+    took_behind setup taken rest left bytes (λ (r : Record). GivesAll r before after) split spells says
 says_behind setup taken rest bytes left statuses.WriteFault before after split spells used says =
-    took_behind setup taken rest left bytes (λ (r : Record). GrowsPart before (output_of r) after) split spells says
+    took_behind setup taken rest left bytes (λ (r : Record). GivesSome r before after) split spells says
 says_behind setup taken rest bytes left statuses.NoMemory before after split spells used says = says
 says_behind setup taken rest bytes left statuses.TooLong before after split spells used says =
     let is : record_of bytes ≡ record_behind setup rest = ap record_of split ∙ behind_setup setup taken rest spells in
     subst (λ (r : Record). SaysBy (λ bs. r) record_len bytes left statuses.TooLong before after) (sym is)
     (says.0, says.1 ∙ rest_behind setup taken rest bytes _ split spells, says.2)
 
-nothing_said : (taken : List ℕ) (before : Option (List ℕ)) → SpellsNothing config_of taken → Grows before (output_of (record_of taken)) before
-nothing_said taken before none =
-    grows_so before before [] (output_of (record_of taken)) (sym (ap (λ r. output_of (started r)) none.1)) (grows_none before before refl)
+nothing_said : (taken : List ℕ) (before : Option (List ℕ)) → SpellsNothing config_of taken → GivesAll (record_of taken) before before
+nothing_said taken before none = subst (λ (r : Record). GivesAll r before before) (sym (ap started none.1)) (grows_none before before refl)
 
 -- no setup was read
 pub no_setup : (e : ConfigRead) (bytes : List ℕ) (left before : Option (List ℕ)) → Reads {X = Setup} config_of (Err e) bytes left → Says bytes left (after_config e) before before

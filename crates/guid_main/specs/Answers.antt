@@ -12,7 +12,7 @@ use Rattle.replay_driver.specs.declared.outcome.Outcome.TheVariants as outcomes
 use Rattle.guid_main.specs.declared.status.Status.{Status}
 use Rattle.guid_main.specs.declared.status.Status.TheVariants as statuses
 use Rattle.record_format.specs.Config.{Fault, Rule, config_len}
-use Rattle.replay_driver.specs.Outputs.{output, output_of}
+use Rattle.replay_driver.specs.Gives.{Gives, GivesPart}
 use Rattle.record_format.specs.ItemSpellings.{items_spelling}
 use Rattle.record_format.specs.Readings.{Took}
 use Rattle.record_format.specs.RecordGrammar.{Ends, Faulty, Record, BadStart, Run, items_from, record_of, whole}
@@ -49,18 +49,28 @@ LeavesRest len (Run setup found) bytes left = left ≡ Some (drop (len setup (wh
 abbrev pub IsTooLong : (Setup → List FedItem → ℕ) → Record → List ℕ → Option (List ℕ) → Option (List ℕ) → Option (List ℕ) → Type 0
 IsTooLong len (BadStart wrong) bytes left before after = ⊥
 IsTooLong len (Run setup found) bytes left before after =
-    (most_items ≤ length found.each) × (left ≡ Some (drop (len setup (take most_items found.each)) bytes)) × Grows before (output setup (take most_items found.each)) after
+    (most_items ≤ length found.each) × (left ≡ Some (drop (len setup (take most_items found.each)) bytes)) × Gives setup (take most_items found.each) before after
+
+-- all that a record gives was written, and it shows and tells each guest what the guest would get alone
+abbrev pub GivesAll : Record → Option (List ℕ) → Option (List ℕ) → Type 0
+GivesAll (BadStart wrong) before after = Grows before [] after
+GivesAll (Run setup found) before after = Gives setup (whole found) before after
+
+-- a part of it was written, from its beginning
+abbrev pub GivesSome : Record → Option (List ℕ) → Option (List ℕ) → Type 0
+GivesSome (BadStart wrong) before after = GrowsPart before [] after
+GivesSome (Run setup found) before after = GivesPart setup (whole found) before after
 
 -- What a status says of the bytes that the input had, of those that it has left, and of what was
 -- written, where a list of bytes is this record and so many bytes are taken for items. Where a read or a write
 -- fails it speaks of the record that the bytes taken so far are.
 abbrev pub SaysBy : (List ℕ → Record) → (Setup → List FedItem → ℕ) → List ℕ → Option (List ℕ) → Status → Option (List ℕ) → Option (List ℕ) → Type 0
-SaysBy read len bytes left statuses.Done before after = IsWhole (read bytes) × LeavesRest len (read bytes) bytes left × Grows before (output_of (read bytes)) after
+SaysBy read len bytes left statuses.Done before after = IsWhole (read bytes) × LeavesRest len (read bytes) bytes left × GivesAll (read bytes) before after
 SaysBy read len bytes left statuses.Usage before after = (left ≡ Some bytes) × (after ≡ before)
 SaysBy read len bytes left (statuses.BadConfig k) before after = (read bytes ≡ BadStart (Rule k)) × (after ≡ before)
-SaysBy read len bytes left (statuses.BadRecord f) before after = HasFault (read bytes) f × Grows before (output_of (read bytes)) after
-SaysBy read len bytes left statuses.ReadFault before after = Took bytes left (λ taken. Grows before (output_of (read taken)) after)
-SaysBy read len bytes left statuses.WriteFault before after = Took bytes left (λ taken. GrowsPart before (output_of (read taken)) after)
+SaysBy read len bytes left (statuses.BadRecord f) before after = HasFault (read bytes) f × GivesAll (read bytes) before after
+SaysBy read len bytes left statuses.ReadFault before after = Took bytes left (λ taken. GivesAll (read taken) before after)
+SaysBy read len bytes left statuses.WriteFault before after = Took bytes left (λ taken. GivesSome (read taken) before after)
 SaysBy read len bytes left statuses.NoMemory before after = after ≡ before
 SaysBy read len bytes left statuses.TooLong before after = IsTooLong len (read bytes) bytes left before after
 

@@ -8,6 +8,8 @@ mod frame_tests;
 #[cfg(test)]
 mod guest_tests;
 #[cfg(test)]
+mod isolation_tests;
+#[cfg(test)]
 mod message_tests;
 #[cfg(test)]
 mod output_tests;

@@ -115,6 +115,10 @@ fn replay<S: Source, K: Sink>(alloc: Global, setup: &Setup, input: &mut S, out: 
 /// Does all that the program does, for the words after its name: with the one word `replay` it reads
 /// a record from the input and writes what the desktop posts to the output.
 ///
+/// What is written for a record is pixel by pixel the composition of its windows, and to each guest exactly
+/// what it would get alone: from its own messages, the words that are read of its frames, and the events and
+/// pastes that are granted to it.
+///
 /// What each status says of the record and of the output stands with `Status`; the record and output
 /// formats are this project's own, and the messages in them are those of the Qubes GUI protocol.
 pub fn run<S: Source, K: Sink>(

@@ -20,6 +20,7 @@ use Rattle.desk_core.specs.declared.desk.Stepped.{Stepped}
 use Rattle.desk_core.specs.declared.desk.Stepped.TheVariants as stepped
 use Rattle.desk_core.specs.DeskStands.{Stands, stepped_of}
 use Rattle.replay_driver.specs.ItemWrites.{Wrote, StepWrites, guest_bytes_of, step_bytes}
+use Rattle.output_laws.specs.RunRecords.{CausesFit}
 use Rattle.record_format.specs.OutputGrammar.{posts_bytes, summary_record}
 use Rattle.desk_core.specs.Painting.{painted_after, plane}
 use Rattle.compositor.specs.PictureView.{PictureView, LiesIn}
@@ -129,6 +130,7 @@ pub item_failed : {T : Type 0} (setup : Setup) (p : ℕ) (item : Item) (piece : 
     → StepWrites {T = T} setup item piece state old new frames (Err e) (step_bytes p setup item piece state) a b f g keeps
 item_failed setup p item piece state old new frames e a b f g keeps told = record {
   stands = told.stands;
+  causes = told.causes;
   painted = told.painted;
   wrote = part_front a b (guest_bytes_of setup item piece state) _ told.wrote (told_first setup p item piece state);
   cause = record { later = told.cause.later; failed = told.cause.failed };
@@ -140,6 +142,7 @@ pub item_going : (setup : Setup) (p : ℕ) (item : Item) (piece : List ℕ) (sta
     → StepWrites {T = Unit {0}} setup item piece state old new frames (Ok tt) (step_bytes p setup item piece state) a b f g keeps
 item_going setup p item piece state old new frames answer a b f g keeps told is = record {
   stands = told.stands;
+  causes = told.causes;
   painted = told.painted;
   wrote = subst (λ (l : List ℕ). Grows a l b) (quiet_bytes setup 0 p item piece state (quiet_is item is)) told.wrote;
   cause = record { later = told.cause.later; failed = tt };
@@ -161,6 +164,7 @@ item_snap setup p item piece state old new frames answer view r a b c f g h keep
     ap (λ (l : List ℕ). l ++ picture_records view) (snap_told setup item piece state snap) ∙ records ∙ ap (λ (i : Item). step_bytes p setup i piece state) (sym snap) in
     record {
       stands = told.stands;
+      causes = told.causes;
       painted = told.painted;
       wrote = wrote_behind r _ _ _ a b c told.wrote wrote whole;
       cause = cause_behind r f g h told.cause.later cause;
@@ -188,6 +192,7 @@ item_ended setup item piece state old new frames answer summary r a b c f g h ke
     ∙ sym (append-nil (summary_record (count_item state).counts p)) ∙ ap (λ (i : Item). step_bytes p setup i piece state) (sym end) in
     record {
       stands = told.stands;
+      causes = told.causes;
       painted = told.painted;
       wrote = wrote_behind r _ _ _ a b c told.wrote wrote whole;
       cause = cause_behind r f g h told.cause.later cause;
@@ -197,10 +202,11 @@ item_ended setup item piece state old new frames answer summary r a b c f g h ke
 -- what a writer wrote to the sink that it lends, as the sink's
 pub told_to : {O T : Type 0} (written : O → Option (List ℕ)) (faults : O → ℕ) (keeps : O → O → Type 0) (setup : Setup) (item : Item) (piece : List ℕ) (state : DeskState) (old new : DeskView) (frames : ℕ → PortState)
     (r : Result T Failed) (bytes : List ℕ) (a m b : O) → b ≡ m → Wrote r bytes (written a) (written m) × HasCause (faults a) (faults m) r → keeps a m
-    → Stands setup new frames (step setup item piece state).desk → (picture_of new).painted ≡ painted_after setup item (picture_of old).painted
+    → Stands setup new frames (step setup item piece state).desk → CausesFit (step setup item piece state).posts → (picture_of new).painted ≡ painted_after setup item (picture_of old).painted
     → StepWrites setup item piece state old new frames r bytes (written a) (written b) (faults a) (faults b) (keeps a b)
-told_to {O} written faults keeps setup item piece state old new frames r bytes a m b is wrote kept stands painted = record {
+told_to {O} written faults keeps setup item piece state old new frames r bytes a m b is wrote kept stands causes painted = record {
   stands = stands;
+  causes = causes;
   painted = painted;
   wrote = subst (λ (o : O). Wrote r bytes (written a) (written o)) (sym is) wrote.0;
   cause = subst (λ (o : O). HasCause (faults a) (faults o) r) (sym is) wrote.1;

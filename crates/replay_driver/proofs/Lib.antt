@@ -6,6 +6,7 @@ pub mod GuestPosts
 pub mod WriterLemmas
 pub mod DeskFacts
 pub mod ItemWriteLemmas
+pub mod IsolatedRuns
 pub mod RunLemmas
 pub mod ItemLemmas
 pub mod FeedLemmas

@@ -1,5 +1,5 @@
 -- The rows of an output, as parts of the rows of the plane.
-use Rattle.std.proofs.Common.{◌≡◌, ℕ, zero, suc, ◌+◌, ◌-◌, ◌≤◌, ◌<◌, List, [], ◌∷◌, ◌++◌, length, get_or, take, drop, sym, ◌∙◌, ap, subst, arith}
+use Rattle.std.proofs.Common.{◌≡◌, ℕ, ◌+◌, ◌-◌, ◌≤◌, ◌<◌, List, [], ◌∷◌, ◌++◌, length, get_or, take, drop, sym, ◌∙◌, ap, subst, arith}
 use Rattle.std.specs.Prelude.{ℤ, pos, negsuc, ◌+ℤ◌, ◌≤ℤ◌}
 use Rattle.std.proofs.lemmas.Int.{ints}
 use Rattle.std.proofs.lemmas.List.{append-nil, take_more, take-append-drop}
@@ -12,6 +12,7 @@ use Rattle.io_ports.specs.Content.{IsPrefix}
 use Rattle.compositor.specs.PictureView.{PictureView, LiesIn}
 use Rattle.replay_driver.specs.PictureRecords.{part_of_row, colours_of, output_record, picture_records}
 use Rattle.record_format.specs.OutputGrammar.{rgb}
+use Rattle.record_format.proofs.SpanLemmas.{span_more, span_within}
 
 -- a side that begins at 0 or behind, and ends before a side of the plane
 side_fits : (a : ℤ) (n m : ℕ) → pos 0 ≤ℤ a → (a +ℤ pos n) ≤ℤ pos m → nat_of a + n ≤ m
@@ -24,22 +25,6 @@ columns_fit width height output lies = side_fits output.x output.w width lies.le
 
 pub rows_fit : (width height : ℕ) (output : Rect) → LiesIn width height output → nat_of output.y + output.h ≤ height
 rows_fit width height output lies = side_fits output.y output.h height lies.top lies.bottom_edge
-
--- one place more
-pub span_more : (a n : ℕ) → span a (n + 1) ≡ span a n ++ (a + n) ∷ []
-span_more a zero = let e : a ≡ a + 0 = omega arith in ap (λ (k : ℕ). k ∷ []) e
-span_more a (suc n) =
-    let e : suc a + n ≡ a + suc n = omega arith in let f : suc n + 1 ≡ suc (n + 1) = omega arith in
-    ap (span a) f ∙ ap (λ (l : List ℕ). a ∷ l) (span_more (suc a) n ∙ ap (λ (k : ℕ). span (suc a) n ++ k ∷ []) e)
-
--- the first places of some
-pub span_within : (a n more : ℕ) → span a (n + more) ≡ span a n ++ span (a + n) more
-span_within a zero more =
-    let e : 0 + more ≡ more = omega arith in let f : a ≡ a + 0 = omega arith in
-    ap (span a) e ∙ ap (λ (k : ℕ). span k more) f
-span_within a (suc n) more =
-    let e : suc n + more ≡ suc (n + more) = omega arith in let f : suc a + n ≡ a + suc n = omega arith in
-    ap (span a) e ∙ ap (λ (l : List ℕ). a ∷ l) (span_within (suc a) n more ∙ ap (λ (k : ℕ). span (suc a) n ++ span k more) f)
 
 -- the bytes of the first rows of an output
 abbrev pub bytes_to : PictureView → Rect → ℕ → List ℕ

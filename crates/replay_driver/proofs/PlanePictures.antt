@@ -22,7 +22,8 @@ use Rattle.desk_core.specs.Painting.{colour_in, plane}
 use Rattle.compositor.specs.PictureView.{PictureView, LiesIn}
 use Rattle.record_format.specs.OutputGrammar.{rgb, picture_head, picture_record, posts_bytes}
 use Rattle.replay_driver.specs.PictureRecords.{part_of_row, colours_of, output_record, picture_records}
-use Rattle.replay_driver.proofs.OutputRows.{span_within, columns_fit, rows_fit}
+use Rattle.record_format.proofs.SpanLemmas.{span_within}
+use Rattle.replay_driver.proofs.OutputRows.{columns_fit, rows_fit}
 use Rattle.replay_driver.proofs.PictureBytes.{picture_is}
 
 -- some places from the middle

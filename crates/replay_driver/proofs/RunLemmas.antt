@@ -10,6 +10,7 @@ use Rattle.desk_laws.specs.declared.item.Item.{Item}
 use Rattle.desk_laws.specs.declared.item.Item.TheVariants as items
 use Rattle.desk_laws.specs.Items.{FedItem, FitsItem}
 use Rattle.desk_laws.specs.declared.limits.TheConstants.{MAX_PIECE}
+use Rattle.desk_laws.specs.Rules.{first_broken}
 use Rattle.desk_laws.specs.Scene.{Post}
 use Rattle.desk_laws.specs.Frames.{PortState, zeros}
 use Rattle.desk_laws.specs.State.{DeskState, Session, fresh, opening, session_of}
@@ -21,7 +22,8 @@ use Rattle.io_ports.specs.declared.feed.FeedFault.TheVariants as feeds
 use Rattle.io_ports.proofs.GrowLemmas.{grows_none, grows_on, part_behind}
 use Rattle.desk_core.specs.DeskView.{DeskView, picture_of}
 use Rattle.replay_driver.specs.declared.outcome.Outcome.TheVariants as outcomes
-use Rattle.replay_driver.specs.FeedOutcomes.{RanOver, EndsNowhereElse, AllFit, AreFramesOf, after_feed}
+use Rattle.output_laws.specs.RunRecords.{AllFit, CausesFit, HasCauseWidths}
+use Rattle.replay_driver.specs.FeedOutcomes.{RanOver, EndsNowhereElse, AreFramesOf, after_feed}
 use Rattle.desk_core.specs.DeskStands.{Stands}
 use Rattle.replay_driver.specs.FeedRuns.{Fed, NoEnd}
 use Rattle.replay_driver.specs.ItemWrites.{step_bytes}
@@ -32,6 +34,7 @@ use Rattle.record_format.specs.RecordGrammar.{alone, is_end}
 use Rattle.frame_pool.specs.Ports.{AreZeros}
 use Rattle.replay_driver.proofs.DeskFacts.{frames_are}
 use Rattle.replay_driver.proofs.GuestPosts.{any_count}
+use Rattle.replay_driver.proofs.IsolatedRuns.{is_isolated}
 
 -- ---- what one call says, each says
 
@@ -118,6 +121,13 @@ Fits setup g = FitsItem (length setup.guests) setup.pages g.item (length g.piece
 fit_more : (setup : Setup) (given : List FedItem) (g : FedItem) → AllFit setup given → Fits setup g → AllFit setup (given ++ g ∷ [])
 fit_more setup given g fits one = All-append (Fits setup) given (g ∷ []) fits (All-cons (Fits setup) g [] one (λ k other below. absurd (omega (arith, below))))
 
+causes_more : (setup : Setup) (given : List FedItem) (g : FedItem) → CausesFit (run setup given (opening setup)).posts → CausesFit (step setup g.item g.piece (run setup given (opening setup)).desk).posts
+    → CausesFit (run setup (given ++ g ∷ []) (opening setup)).posts
+causes_more setup given g fit one =
+    let before = (run setup given (opening setup)).posts in
+    let posts = (step setup g.item g.piece (run setup given (opening setup)).desk).posts in
+    subst CausesFit (sym (run_posts setup given g (opening setup))) (All-append HasCauseWidths before posts fit one)
+
 -- ---- the frames
 
 first_session : (setup : Setup) (guest : ℕ) → guest < length setup.guests → (session_of guest (opening setup)).port ≡ zeros setup.pages
@@ -137,6 +147,7 @@ pub record SoFar {F : Type 0} (gives : F → Answer → F → Type 0) (setup : S
   pub fed : Fed gives first given None feed
   pub no_end : NoEnd given
   pub fits : AllFit setup given
+  pub causes : CausesFit (run setup given (opening setup)).posts
   pub count : length given ≡ n
   pub stands : Stands setup desk frames (run setup given (opening setup)).desk
   pub painted : (picture_of desk).painted ≡ painted_from setup 0 given
@@ -149,6 +160,7 @@ started gives setup feed desk frames before stands painted = record {
   fed = refl;
   no_end = tt;
   fits = λ k other below. absurd (omega (arith, below));
+  causes = λ k other below. absurd (omega (arith, below));
   count = refl;
   stands = stands;
   painted = painted;
@@ -158,14 +170,16 @@ started gives setup feed desk frames before stands painted = record {
 pub stepped : {F : Type 0} (gives : F → Answer → F → Type 0) (setup : Setup) (n p : ℕ) (first feed after_feed : F) (desk new : DeskView) (frames frames' : ℕ → PortState) (g : FedItem) (before mid after : Option (List ℕ))
     → (so_far : SoFar gives setup n first feed desk frames before mid) → gives feed (Ok g) after_feed → Fits setup g → is_end g.item ≡ false
     → Stands setup new frames' (step setup g.item g.piece (run setup so_far.given (opening setup)).desk).desk
+    → CausesFit (step setup g.item g.piece (run setup so_far.given (opening setup)).desk).posts
     → (picture_of new).painted ≡ painted_after setup g.item (picture_of desk).painted
     → Grows mid (step_bytes p setup g.item g.piece (run setup so_far.given (opening setup)).desk) after
     → SoFar gives setup (n + 1) first after_feed new frames' before after
-stepped gives setup n p first feed after_feed desk new frames frames' g before mid after so_far one fits more stands painted grown = record {
+stepped gives setup n p first feed after_feed desk new frames frames' g before mid after so_far one fits more stands causes painted grown = record {
   given = so_far.given ++ g ∷ [];
   fed = fed_more gives so_far.given g first feed after_feed so_far.fed one;
   no_end = no_end_more so_far.given g so_far.no_end more;
   fits = fit_more setup so_far.given g so_far.fits fits;
+  causes = causes_more setup so_far.given g so_far.causes causes;
   count = omega (arith, length-append so_far.given (g ∷ []), so_far.count);
   stands = subst (λ (s : DeskState). Stands setup new frames' s) (sym (run_desk setup so_far.given g (opening setup))) stands;
   painted = painted ∙ ap (painted_after setup g.item) so_far.painted ∙ sym (painted_more setup so_far.given g 0);
@@ -175,12 +189,14 @@ stepped gives setup n p first feed after_feed desk new frames frames' g before m
 -- ---- the outcomes
 
 pub ended : {F : Type 0} (gives : F → Answer → F → Type 0) (setup : Setup) (n bound : ℕ) (first feed after_feed : F) (desk new : DeskView) (frames frames' : ℕ → PortState) (g : FedItem) (before mid after : Option (List ℕ))
+    → first_broken setup ≡ None
     → (so_far : SoFar gives setup n first feed desk frames before mid) → gives feed (Ok g) after_feed → Fits setup g → g ≡ alone items.End → n < bound
     → Stands setup new frames' (step setup g.item g.piece (run setup so_far.given (opening setup)).desk).desk
+    → CausesFit (step setup g.item g.piece (run setup so_far.given (opening setup)).desk).posts
     → (picture_of new).painted ≡ painted_after setup g.item (picture_of desk).painted
     → Grows mid (step_bytes (picture_of new).painted setup g.item g.piece (run setup so_far.given (opening setup)).desk) after
     → RanOver gives setup bound first after_feed outcomes.Done frames' before after
-ended gives setup n bound first feed after_feed desk new frames frames' g before mid after so_far one fits end below stands painted grown =
+ended gives setup n bound first feed after_feed desk new frames frames' g before mid after unbroken so_far one fits end below stands causes painted grown =
     let all = so_far.given ++ g ∷ [] in
     let p : (picture_of new).painted ≡ painted_from setup 0 all = painted ∙ ap (painted_after setup g.item) so_far.painted ∙ sym (painted_more setup so_far.given g 0) in
     record {
@@ -193,7 +209,10 @@ ended gives setup n bound first feed after_feed desk new frames frames' g before
         refl,
         record { front = so_far.given; is = ap (λ (x : FedItem). so_far.given ++ x ∷ []) end; no_end = so_far.no_end },
         omega (arith, length-append so_far.given (g ∷ []), so_far.count),
-        grows_on before mid after _ _ _ so_far.grown grown (output_more setup so_far.given g (picture_of new).painted so_far.no_end p),
+        record {
+          grown = grows_on before mid after _ _ _ so_far.grown grown (output_more setup so_far.given g (picture_of new).painted so_far.no_end p);
+          isolated = is_isolated setup all unbroken (fit_more setup so_far.given g so_far.fits fits) (causes_more setup so_far.given g so_far.causes causes);
+        },
       );
     }
 
@@ -202,12 +221,14 @@ ends_behind given g none (inl more) = inl (no_end_more given g none more)
 ends_behind given g none (inr end) = inr (record { front = given; is = ap (λ (x : FedItem). given ++ x ∷ []) end; no_end = none })
 
 pub cut_short : {F : Type 0} (gives : F → Answer → F → Type 0) (setup : Setup) (n bound : ℕ) (first feed after_feed : F) (desk new : DeskView) (frames frames' : ℕ → PortState) (g : FedItem) (before mid after : Option (List ℕ))
+    → first_broken setup ≡ None
     → (so_far : SoFar gives setup n first feed desk frames before mid) → gives feed (Ok g) after_feed → Fits setup g → (is_end g.item ≡ false) ⊎ (g ≡ alone items.End) → n < bound
     → Stands setup new frames' (step setup g.item g.piece (run setup so_far.given (opening setup)).desk).desk
+    → CausesFit (step setup g.item g.piece (run setup so_far.given (opening setup)).desk).posts
     → (picture_of new).painted ≡ painted_after setup g.item (picture_of desk).painted
     → GrowsPart mid (step_bytes (picture_of new).painted setup g.item g.piece (run setup so_far.given (opening setup)).desk) after
     → RanOver gives setup bound first after_feed outcomes.WriteFault frames' before after
-cut_short gives setup n bound first feed after_feed desk new frames frames' g before mid after so_far one fits kind below stands painted part =
+cut_short gives setup n bound first feed after_feed desk new frames frames' g before mid after unbroken so_far one fits kind below stands causes painted part =
     let all = so_far.given ++ g ∷ [] in
     let p : (picture_of new).painted ≡ painted_from setup 0 all = painted ∙ ap (painted_after setup g.item) so_far.painted ∙ sym (painted_more setup so_far.given g 0) in
     record {
@@ -220,7 +241,10 @@ cut_short gives setup n bound first feed after_feed desk new frames frames' g be
         refl,
         ends_behind so_far.given g so_far.no_end kind,
         omega (arith, length-append so_far.given (g ∷ []), so_far.count),
-        part_behind before mid after _ _ _ so_far.grown part (output_more setup so_far.given g (picture_of new).painted so_far.no_end p),
+        record {
+          grown = part_behind before mid after _ _ _ so_far.grown part (output_more setup so_far.given g (picture_of new).painted so_far.no_end p);
+          isolated = is_isolated setup all unbroken (fit_more setup so_far.given g so_far.fits fits) (causes_more setup so_far.given g so_far.causes causes);
+        },
       );
     }
 
@@ -228,33 +252,35 @@ same_bytes : (before after : Option (List ℕ)) (xs ys : List ℕ) → xs ≡ ys
 same_bytes before after xs ys same grown = subst (λ (l : List ℕ). Grows before l after) same grown
 
 pub no_item : {F : Type 0} (gives : F → Answer → F → Type 0) (setup : Setup) (n bound : ℕ) (first feed after : F) (desk : DeskView) (frames : ℕ → PortState) (fault : FeedFault) (before mid : Option (List ℕ))
+    → first_broken setup ≡ None
     → SoFar gives setup n first feed desk frames before mid → gives feed (Err fault) after → n < bound → RanOver gives setup bound first after (after_feed fault) frames before mid
-no_item gives setup n bound first feed after desk frames feeds.Failed before mid so_far one below = record {
+no_item gives setup n bound first feed after desk frames feeds.Failed before mid unbroken so_far one below = record {
   given = so_far.given;
   last = Some feeds.Failed;
   fed = fed_last gives so_far.given feeds.Failed first feed after so_far.fed one;
   fits = so_far.fits;
   frames_left = frames_are setup desk frames _ so_far.stands;
-  ran = (refl, so_far.no_end, omega (arith, so_far.count), same_bytes before mid _ _ (output_so_far setup so_far.given so_far.no_end) so_far.grown);
+  ran = (refl, so_far.no_end, omega (arith, so_far.count), record { grown = same_bytes before mid _ _ (output_so_far setup so_far.given so_far.no_end) so_far.grown; isolated = is_isolated setup so_far.given unbroken so_far.fits so_far.causes });
 }
-no_item gives setup n bound first feed after desk frames (feeds.Bad f) before mid so_far one below = record {
+no_item gives setup n bound first feed after desk frames (feeds.Bad f) before mid unbroken so_far one below = record {
   given = so_far.given;
   last = Some (feeds.Bad f);
   fed = fed_last gives so_far.given (feeds.Bad f) first feed after so_far.fed one;
   fits = so_far.fits;
   frames_left = frames_are setup desk frames _ so_far.stands;
-  ran = (refl, so_far.no_end, omega (arith, so_far.count), same_bytes before mid _ _ (output_so_far setup so_far.given so_far.no_end) so_far.grown);
+  ran = (refl, so_far.no_end, omega (arith, so_far.count), record { grown = same_bytes before mid _ _ (output_so_far setup so_far.given so_far.no_end) so_far.grown; isolated = is_isolated setup so_far.given unbroken so_far.fits so_far.causes });
 }
 
 pub too_long : {F : Type 0} (gives : F → Answer → F → Type 0) (setup : Setup) (n bound : ℕ) (first feed : F) (desk : DeskView) (frames : ℕ → PortState) (before mid : Option (List ℕ))
+    → first_broken setup ≡ None
     → SoFar gives setup n first feed desk frames before mid → n ≡ bound → RanOver gives setup bound first feed outcomes.TooLong frames before mid
-too_long gives setup n bound first feed desk frames before mid so_far is = record {
+too_long gives setup n bound first feed desk frames before mid unbroken so_far is = record {
   given = so_far.given;
   last = None;
   fed = so_far.fed;
   fits = so_far.fits;
   frames_left = frames_are setup desk frames _ so_far.stands;
-  ran = (refl, so_far.no_end, so_far.count ∙ is, same_bytes before mid _ _ (output_so_far setup so_far.given so_far.no_end) so_far.grown);
+  ran = (refl, so_far.no_end, so_far.count ∙ is, record { grown = same_bytes before mid _ _ (output_so_far setup so_far.given so_far.no_end) so_far.grown; isolated = is_isolated setup so_far.given unbroken so_far.fits so_far.causes });
 }
 
 pub no_memory : {F : Type 0} (gives : F → Answer → F → Type 0) (setup : Setup) (bound : ℕ) (feed : F) (frames : ℕ → PortState) (before : Option (List ℕ))

@@ -1,6 +1,10 @@
 -- What a writer wrote, one post after the other.
 use Rattle.std.proofs.Common.{◌≡◌, ℕ, ◌≤◌, List, [], ◌∷◌, ◌++◌, Option, Bool, true, false, Ok, Err, inl, inr, refl, sym, ◌∙◌, subst, arith}
-use Rattle.desk_laws.specs.Scene.{Post}
+use Rattle.std.specs.List.{All}
+use Rattle.std.proofs.lemmas.List.Elements.{All-cons, All-head, All-tail}
+use Rattle.desk_laws.specs.Scene.{Post, Reply, Ended, Picture, Summary}
+use Rattle.desk_core.specs.DeskPosts.{guest_posts}
+use Rattle.output_laws.specs.RunRecords.{CausesFit, HasCauseWidths}
 use Rattle.io_ports.specs.Content.{GrowsPart}
 use Rattle.io_ports.specs.Counts.{Rose, HasCause}
 use Rattle.io_ports.specs.Posts.{Leads}
@@ -40,6 +44,22 @@ fails_on true y z f g h le le' first then = tt
 fails_on false y false f g h le le' first then = tt
 fails_on false true true f g h le le' first then = rose_after f g h le' first
 fails_on false false true f g h le le' first then = rose_before f g h le then
+
+-- what is known of each post, and what leads by each
+pub leads_apart : {O : Type 0} (known : Post → Type 0) (takes : O → Post → O → Type 0) (posts : List Post) (a b : O) → Leads (λ a post b. known post × takes a post b) a posts b → All known posts × Leads takes a posts b
+leads_apart known takes [] a b leads = (λ k other below. absurd (omega (arith, below)), leads)
+leads_apart known takes (post ∷ posts) a b leads =
+    let next = leads_apart known takes posts leads.0 b leads.2 in
+    (All-cons known post posts leads.1.0 next.0, (leads.0, leads.1.1, next.1))
+
+-- the posts for guests are the ones that have causes
+pub causes_all : (posts : List Post) → CausesFit (guest_posts posts) → CausesFit posts
+causes_all [] fit = fit
+causes_all (Reply guest bytes ∷ posts) fit = All-cons HasCauseWidths (Reply guest bytes) posts tt (causes_all posts (All-tail HasCauseWidths (Reply guest bytes) (guest_posts posts) fit))
+causes_all (Ended guest cause ∷ posts) fit =
+    All-cons HasCauseWidths (Ended guest cause) posts (All-head HasCauseWidths (Ended guest cause) (guest_posts posts) fit) (causes_all posts (All-tail HasCauseWidths (Ended guest cause) (guest_posts posts) fit))
+causes_all (Picture width height colours ∷ posts) fit = All-cons HasCauseWidths (Picture width height colours) posts tt (causes_all posts fit)
+causes_all (Summary counts ∷ posts) fit = All-cons HasCauseWidths (Summary counts) posts tt (causes_all posts fit)
 
 -- the posts, one after the other, were written as their bytes are
 pub writes_all : {O : Type 0} (failed : O → Bool) (written : O → Option (List ℕ)) (faults : O → ℕ) (same : O → O → Type 0)

@@ -1,12 +1,12 @@
 -- What the outcome of a run over a feed says: of the items that were given, of what was written, and of the frames.
-use Rattle.std.specs.Prelude.{◌⊎◌, ◌≡◌, ℕ, ◌<◌, ◌≤◌, List, [], ◌∷◌, ◌++◌, length, All, Option, Some, None, Ok, Err, ◌+◌}
-use Rattle.io_ports.specs.Content.{Grows, GrowsPart, Told}
+use Rattle.std.specs.Prelude.{◌⊎◌, ◌≡◌, ℕ, ◌<◌, ◌≤◌, List, [], ◌∷◌, ◌++◌, length, Option, Some, None, Ok, Err, ◌+◌}
+use Rattle.io_ports.specs.Content.{Told}
 use Rattle.io_ports.specs.Feeds.{Answer, Coming, ComesNext}
 use Rattle.io_ports.specs.declared.feed.FeedFault.{FeedFault}
 use Rattle.io_ports.specs.declared.feed.FeedFault.TheVariants as feeds
 use Rattle.desk_laws.specs.declared.setup.Setup.{Setup}
 use Rattle.desk_laws.specs.declared.item.Item.TheVariants as items
-use Rattle.desk_laws.specs.Items.{FedItem, FitsItem}
+use Rattle.desk_laws.specs.Items.{FedItem}
 use Rattle.desk_laws.specs.Frames.{PortState, counted}
 use Rattle.desk_laws.specs.State.{DeskState, opening, session_of}
 use Rattle.desk_laws.specs.Steps.{run}
@@ -14,7 +14,8 @@ use Rattle.record_format.specs.RecordGrammar.{alone}
 use Rattle.replay_driver.specs.declared.outcome.Outcome.{Outcome}
 use Rattle.replay_driver.specs.declared.outcome.Outcome.TheVariants as outcomes
 use Rattle.replay_driver.specs.FeedRuns.{NoEnd, Fed}
-use Rattle.replay_driver.specs.Outputs.{output}
+use Rattle.output_laws.specs.RunRecords.{AllFit}
+use Rattle.replay_driver.specs.Gives.{Gives, GivesPart}
 
 -- End stands last among the items, and nowhere else
 pub record EndsLast (given : List FedItem) : Type 0 where
@@ -30,16 +31,16 @@ EndsNowhereElse given = NoEnd given ⊎ EndsLast given
 -- and of what was written, where at most so many items are taken.
 abbrev pub Ran : Setup → ℕ → List FedItem → Option FeedFault → Outcome → Option (List ℕ) → Option (List ℕ) → Type 0
 Ran setup bound given last outcomes.Done before after =
-    (last ≡ None) × EndsLast given × (length given ≤ bound) × Grows before (output setup given) after
+    (last ≡ None) × EndsLast given × (length given ≤ bound) × Gives setup given before after
 Ran setup bound given last (outcomes.BadRecord f) before after =
-    (last ≡ Some (feeds.Bad f)) × NoEnd given × (length given < bound) × Grows before (output setup given) after
+    (last ≡ Some (feeds.Bad f)) × NoEnd given × (length given < bound) × Gives setup given before after
 Ran setup bound given last outcomes.ReadFault before after =
-    (last ≡ Some feeds.Failed) × NoEnd given × (length given < bound) × Grows before (output setup given) after
+    (last ≡ Some feeds.Failed) × NoEnd given × (length given < bound) × Gives setup given before after
 Ran setup bound given last outcomes.WriteFault before after =
-    (last ≡ None) × EndsNowhereElse given × (length given ≤ bound) × GrowsPart before (output setup given) after
+    (last ≡ None) × EndsNowhereElse given × (length given ≤ bound) × GivesPart setup given before after
 Ran setup bound given last outcomes.NoMemory before after = (last ≡ None) × (given ≡ []) × (after ≡ before)
 Ran setup bound given last outcomes.TooLong before after =
-    (last ≡ None) × NoEnd given × (length given ≡ bound) × Grows before (output setup given) after
+    (last ≡ None) × NoEnd given × (length given ≡ bound) × Gives setup given before after
 
 -- the outcome where the feed gave no item
 abbrev pub after_feed : FeedFault → Outcome
@@ -56,10 +57,6 @@ pub record FeedCall {F : Type 0} (gives : F → Answer → F → Type 0) (left :
   pub gave : gives a answer b
   pub next : Told (left a) (λ coming. ComesNext coming answer (left b))
   pub counts : count b ≡ given_by answer (count a)
-
--- each of these items is in its ranges, with a piece that it may have
-abbrev pub AllFit : Setup → List FedItem → Type 0
-AllFit setup given = All (λ g. FitsItem (length setup.guests) setup.pages g.item (length g.piece)) given
 
 -- the frames of each guest are those of its session in this state
 abbrev pub AreFramesOf : Setup → DeskState → (ℕ → PortState) → Type 0

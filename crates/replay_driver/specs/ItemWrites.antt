@@ -12,6 +12,7 @@ use Rattle.desk_laws.specs.Steps.{step}
 use Rattle.desk_core.specs.DeskView.{DeskView, picture_of}
 use Rattle.desk_core.specs.DeskPosts.{guest_posts}
 use Rattle.desk_core.specs.DeskStands.{Stands}
+use Rattle.output_laws.specs.RunRecords.{CausesFit}
 use Rattle.record_format.specs.OutputGrammar.{posts_bytes}
 use Rattle.desk_core.specs.Painting.{painted_after}
 use Rattle.replay_driver.specs.PictureRecords.{head_of}
@@ -21,10 +22,12 @@ abbrev pub Wrote : {T : Type 0} → Result T Failed → List ℕ → Option (Lis
 Wrote (Ok x) bytes before after = Grows before bytes after
 Wrote (Err e) bytes before after = GrowsPart before bytes after
 
--- The desk, with these frames, stands for the state after the step, and these bytes were written to one and the same sink.
+-- The desk, with these frames, stands for the state after the step, whose causes have values of 32 bits, and these bytes were
+-- written to one and the same sink.
 pub record StepWrites {T : Type 0} (setup : Setup) (item : Item) (piece : List ℕ) (state : DeskState) (old new : DeskView) (frames : ℕ → PortState) (result : Result T Failed)
     (bytes : List ℕ) (before after : Option (List ℕ)) (faults faults' : ℕ) (keeps : Type 0) : Type 0 where
   pub stands : Stands setup new frames (step setup item piece state).desk
+  pub causes : CausesFit (step setup item piece state).posts
   pub painted : (picture_of new).painted ≡ painted_after setup item (picture_of old).painted
   pub wrote : Wrote result bytes before after
   pub cause : HasCause faults faults' result

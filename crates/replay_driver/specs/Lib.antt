@@ -1,5 +1,6 @@
 pub mod FeedView
 pub mod Outputs
+pub mod Gives
 pub mod ItemParts
 pub mod FeedReadings
 pub mod FeedRuns

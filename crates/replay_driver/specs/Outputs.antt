@@ -6,7 +6,6 @@ use Rattle.desk_laws.specs.State.{opening}
 use Rattle.desk_laws.specs.Steps.{run}
 use Rattle.desk_core.specs.Painting.{painted_after}
 use Rattle.record_format.specs.OutputGrammar.{posts_bytes}
-use Rattle.record_format.specs.RecordGrammar.{Record, BadStart, Run, whole}
 
 -- the picture's count after these items
 abbrev pub painted_from : Setup → ℕ → List FedItem → ℕ
@@ -16,8 +15,3 @@ painted_from setup painted (given ∷ items) = painted_from setup (painted_after
 -- what a run of these items writes
 unfoldable pub output : Setup → List FedItem → List ℕ
 output setup items = posts_bytes (painted_from setup 0 items) (run setup items (opening setup)).posts
-
--- what a record gives
-abbrev pub output_of : Record → List ℕ
-output_of (BadStart wrong) = []
-output_of (Run setup found) = output setup (whole found)

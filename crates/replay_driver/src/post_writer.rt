@@ -1,10 +1,10 @@
 // Writes what guests are told as records.
 ghost use Rattle.std.specs.Prelude.{◌≡◌, ◌∷◌, OnOk, OnErr};
 ghost use Rattle.gui_wire.specs.Words.{word};
-ghost use Rattle.desk_laws.specs.Scene.{Ended};
 ghost use Rattle.io_ports.specs.Content.{Grows, GrowsPart};
 ghost use Rattle.io_ports.specs.Counts.{HasCause};
 ghost use Rattle.record_format.specs.OutputGrammar.{guest_byte, reply_record, ended_record, post_bytes};
+ghost use Rattle.output_laws.specs.RunRecords.{HasCauseWidths};
 ghost use Rattle.replay_driver.specs.Writes.{WritesOn};
 
 use desk_laws::Cause;
@@ -48,17 +48,17 @@ fn ended_bytes(guest: u32, number: u8, a: u32, b: u32) -> [u8; 11]
 }
 
 // Writes an Ended record.
-fn put_ended<K: Sink>(out: &mut K, guest: u32, cause: Cause) -> Result<(), Failed>
-    ensures ok { OnOk result (Grows (K.written out.old) (post_bytes 0 (Ended guest cause)) (K.written out.new)) }
-    ensures err { OnErr result (GrowsPart (K.written out.old) (post_bytes 0 (Ended guest cause)) (K.written out.new)) }
+fn put_ended<K: Sink>(out: &mut K, guest: u32, number: u8, a: u32, b: u32) -> Result<(), Failed>
+    ensures ok { OnOk result (Grows (K.written out.old) (ended_record guest number a b) (K.written out.new)) }
+    ensures err { OnErr result (GrowsPart (K.written out.old) (ended_record guest number a b) (K.written out.new)) }
     ensures keeps { K.keeps out.old out.new }
     ensures cause { HasCause (K.faults out.old) (K.faults out.new) result }
 {
-    let (a, b) = cause.values();
-    put_all(out, &ended_bytes(guest, cause.number(), a, b))
+    put_all(out, &ended_bytes(guest, number, a, b))
 }
 
-/// An outlet that writes each post as a record, up to the first write that fails.
+/// An outlet that writes each post as a record, up to the first write that fails. The values of each cause that
+/// it takes have 32 bits.
 #[derive(Drop)]
 pub struct PostWriter<'a, K> {
     /// Where the records go to.
@@ -68,7 +68,7 @@ pub struct PostWriter<'a, K> {
 }
 
 impl<K: Sink> Outlet for PostWriter<'_, K> {
-    ghost takes = { λ a post b. WritesOn a.failed b.failed (post_bytes 0 post) (K.written a.out.now) (K.written b.out.now) (K.faults a.out.now) (K.faults b.out.now) ((b.out.ghost_name ≡ a.out.ghost_name) × K.keeps a.out.now b.out.now) };
+    ghost takes = { λ a post b. HasCauseWidths post × WritesOn a.failed b.failed (post_bytes 0 post) (K.written a.out.now) (K.written b.out.now) (K.faults a.out.now) (K.faults b.out.now) ((b.out.ghost_name ≡ a.out.ghost_name) × K.keeps a.out.now b.out.now) };
 
     fn reply(&mut self, guest: u32, bytes: &[u8]) {
         if !self.failed {
@@ -77,8 +77,9 @@ impl<K: Sink> Outlet for PostWriter<'_, K> {
     }
 
     fn ended(&mut self, guest: u32, cause: Cause) {
+        let (a, b) = cause.values();
         if !self.failed {
-            self.failed = put_ended(self.out, guest, cause).is_err();
+            self.failed = put_ended(self.out, guest, cause.number(), a, b).is_err();
         }
     }
 }

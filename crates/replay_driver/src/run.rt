@@ -77,6 +77,7 @@ fn run_items<F: Feed, P: FramePort, K: Sink>(
     out: &mut K,
     bounds: Bounds,
 ) -> Outcome
+    requires sound { first_broken setup.now ≡ None }
     requires stands { Stands setup.now desk.old (P.state port.old) (opening setup.now) }
     requires fresh { (picture_of desk.old).painted ≡ 0 }
     requires fits { Fits setup.now }
@@ -116,7 +117,9 @@ fn run_items<F: Feed, P: FramePort, K: Sink>(
 
 /// Runs a desk of this setup over a feed: takes items until it gives End, at most as many as the bounds
 /// say, and writes what they give as records of an output. All items before the last answer of the feed
-/// were stepped, and what they give was written whole, but where a write failed. `NoMemory` is answered
+/// were stepped, and what they give was written whole, but where a write failed. What they give shows and
+/// tells each guest what it would get alone, from its own messages, the words that are read of its frames,
+/// and what is granted to it. `NoMemory` is answered
 /// before any item is taken, and nothing was written then. `ReadFault` and `WriteFault` are answered only
 /// where the feed's or the sink's count of faults rose. The setup keeps its rules, the feed is of its
 /// numbers of guests and pages, so is the port, whose frames are all zero and whose stores none waits,

@@ -27,7 +27,7 @@ pub returns-in-Err-clause-ran : goal.returns-in-Err-clause-ran
 returns-in-Err-clause-ran g c =
     subst (λ (o : Outcome). RanOver (FeedCall g.F.Feed.gives g.F.Feed.left g.F.Feed.given) c.args.setup.now c.args.bounds.items c.args.feed.now c.next.new.self o (g.P.FramePort.state c.loop-n.port) (g.K.Sink.written c.args.out.now) (g.K.Sink.written c.loop-n.out))
     (sym c.after_feed.ensures.is)
-    (no_item (FeedCall g.F.Feed.gives g.F.Feed.left g.F.Feed.given) c.args.setup.now c.loop-n._n c.args.bounds.items c.args.feed.now c.loop-n.feed c.next.new.self c.loop-n.desk _ _ _ _ c.loop-n.invariant.so_far
+    (no_item (FeedCall g.F.Feed.gives g.F.Feed.left g.F.Feed.given) c.args.setup.now c.loop-n._n c.args.bounds.items c.args.feed.now c.loop-n.feed c.next.new.self c.loop-n.desk _ _ _ _ c.requires.sound c.loop-n.invariant.so_far
     (record { gave = c.in-Err.ensures.gives; next = c.in-Err.ensures.coming; counts = c.in-Err.ensures.given }) (omega arith))
 
 pub returns-in-Err-clause-keeps : goal.returns-in-Err-clause-keeps
@@ -74,10 +74,10 @@ pub returns-in-Err-write_item-clause-ran : goal.returns-in-Err-write_item-clause
 returns-in-Err-write_item-clause-ran g c =
     let so_far = c.loop-n.invariant.so_far in
     let wrote = c.in-Err-write_item.ensures.writes c.args.setup.now (run c.args.setup.now so_far.given (opening c.args.setup.now)).desk so_far.stands in
-    cut_short (FeedCall g.F.Feed.gives g.F.Feed.left g.F.Feed.given) c.args.setup.now c.loop-n._n c.args.bounds.items _ _ _ _ c.write_item.new.desk _ _ _ _ _ _ so_far
+    cut_short (FeedCall g.F.Feed.gives g.F.Feed.left g.F.Feed.given) c.args.setup.now c.loop-n._n c.args.bounds.items _ _ _ _ c.write_item.new.desk _ _ _ _ _ _ c.requires.sound so_far
     (record { gave = c.in-Ok.ensures.gives; next = c.in-Ok.ensures.coming; counts = c.in-Ok.ensures.given })
     (item_fits c.args.setup.now _ _ c.in-Ok.next.item c.in-Ok.next.len c.next.new.room c.loop-n.invariant.guests c.loop-n.invariant.pages (omega (arith, c.loop-n.invariant.room, c.next.auto.room)) c.in-Ok.ensures.range)
-    (end_or _ _ c.in-Ok.next.item c.in-Ok.next.len c.next.new.room c.in-Ok.ensures.range) (omega arith) wrote.stands wrote.painted wrote.wrote
+    (end_or _ _ c.in-Ok.next.item c.in-Ok.next.len c.next.new.room c.in-Ok.ensures.range) (omega arith) wrote.stands wrote.causes wrote.painted wrote.wrote
 
 pub returns-in-Err-write_item-clause-keeps : goal.returns-in-Err-write_item-clause-keeps
 returns-in-Err-write_item-clause-keeps g c =
@@ -104,10 +104,10 @@ pub returns-then-is_end-clause-ran : goal.returns-then-is_end-clause-ran
 returns-then-is_end-clause-ran g c =
     let so_far = c.loop-n.invariant.so_far in
     let wrote = c.in-Ok-write_item.ensures.writes c.args.setup.now (run c.args.setup.now so_far.given (opening c.args.setup.now)).desk so_far.stands in
-    ended (FeedCall g.F.Feed.gives g.F.Feed.left g.F.Feed.given) c.args.setup.now c.loop-n._n c.args.bounds.items _ _ _ _ c.write_item.new.desk _ _ _ _ _ _ so_far
+    ended (FeedCall g.F.Feed.gives g.F.Feed.left g.F.Feed.given) c.args.setup.now c.loop-n._n c.args.bounds.items _ _ _ _ c.write_item.new.desk _ _ _ _ _ _ c.requires.sound so_far
     (record { gave = c.in-Ok.ensures.gives; next = c.in-Ok.ensures.coming; counts = c.in-Ok.ensures.given })
     (item_fits c.args.setup.now _ _ c.in-Ok.next.item c.in-Ok.next.len c.next.new.room c.loop-n.invariant.guests c.loop-n.invariant.pages (omega (arith, c.loop-n.invariant.room, c.next.auto.room)) c.in-Ok.ensures.range)
-    (end_alone _ _ c.in-Ok.next.item c.in-Ok.next.len c.next.new.room c.in-Ok.ensures.range (sym c.is_end.ensures ∙ c.if-is_end.true)) (omega arith) wrote.stands wrote.painted wrote.wrote
+    (end_alone _ _ c.in-Ok.next.item c.in-Ok.next.len c.next.new.room c.in-Ok.ensures.range (sym c.is_end.ensures ∙ c.if-is_end.true)) (omega arith) wrote.stands wrote.causes wrote.painted wrote.wrote
 
 pub returns-then-is_end-clause-keeps : goal.returns-then-is_end-clause-keeps
 returns-then-is_end-clause-keeps g c =
@@ -132,7 +132,7 @@ loop-n-preserved g c =
       so_far = stepped (FeedCall g.F.Feed.gives g.F.Feed.left g.F.Feed.given) c.args.setup.now c.loop-n._n _ _ _ _ _ _ _ _ _ _ _ _ so_far
           (record { gave = c.in-Ok.ensures.gives; next = c.in-Ok.ensures.coming; counts = c.in-Ok.ensures.given })
           (item_fits c.args.setup.now _ _ c.in-Ok.next.item c.in-Ok.next.len c.next.new.room c.loop-n.invariant.guests c.loop-n.invariant.pages (omega (arith, c.loop-n.invariant.room, c.next.auto.room)) c.in-Ok.ensures.range)
-          (sym c.is_end.ensures ∙ c.if-is_end.false) wrote.stands wrote.painted wrote.wrote;
+          (sym c.is_end.ensures ∙ c.if-is_end.false) wrote.stands wrote.causes wrote.painted wrote.wrote;
       line = omega (arith, c.loop-n.invariant.line);
       room = omega (arith, c.loop-n.invariant.room);
       guests = c.in-Ok.ensures.guests ∙ c.loop-n.invariant.guests;
@@ -145,7 +145,7 @@ loop-n-preserved g c =
     }
 
 pub returns-clause-ran : goal.returns-clause-ran
-returns-clause-ran g c = too_long (FeedCall g.F.Feed.gives g.F.Feed.left g.F.Feed.given) c.args.setup.now c.loop-n._n c.args.bounds.items _ _ _ _ _ _ c.loop-n.invariant.so_far (omega arith)
+returns-clause-ran g c = too_long (FeedCall g.F.Feed.gives g.F.Feed.left g.F.Feed.given) c.args.setup.now c.loop-n._n c.args.bounds.items _ _ _ _ _ _ c.requires.sound c.loop-n.invariant.so_far (omega arith)
 
 pub returns-clause-keeps : goal.returns-clause-keeps
 returns-clause-keeps g c = c.loop-n.invariant.keeps
