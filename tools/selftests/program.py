@@ -38,6 +38,9 @@ def closing(number):
     return lambda: os.close(number)
 
 
+USAGE = "usage: guid replay | guid make N"
+
+
 class Statuses(unittest.TestCase):
     def ends(self, ran, number, line, written=b""):
         told = line.encode() + b"\n" if line else b""
@@ -52,14 +55,21 @@ class Statuses(unittest.TestCase):
         self.ends(replay(EMPTY_DESK + b"\xff\x01"), 0, "", EMPTY_OUTPUT)
 
     def test_usage(self):
-        for words in (("play",), ("replay", "x"), ("replay", "replay"), ("",), ("replay ",)):
-            self.ends(replay(EMPTY_DESK, *words), 2, "usage: guid replay")
+        for words in (("play",), ("replay", "x"), ("replay", "replay"), ("",), ("replay ",), ("make",), ("make", "1000001")):
+            self.ends(replay(EMPTY_DESK, *words), 2, USAGE)
         with tempfile.TemporaryFile() as file:
             file.write(EMPTY_DESK)
             file.seek(0)
             ran = subprocess.run([PROGRAM], stdin=file, capture_output=True, timeout=SECONDS)
-            self.ends(ran, 2, "usage: guid replay")
+            self.ends(ran, 2, USAGE)
             self.assertEqual(os.lseek(file.fileno(), 0, os.SEEK_CUR), 0, "input was read")
+
+    def test_made(self):
+        made = replay(b"", "make", "0")
+        self.assertEqual((made.returncode, made.stderr, len(made.stdout)), (0, b"", 564))
+        ran = replay(made.stdout)
+        self.assertEqual((ran.returncode, ran.stderr), (0, b""))
+        self.assertEqual(ran.stdout[-33:-8], b"\x04" + b"".join(n.to_bytes(8, "little") for n in (6, 12, 0)))
 
     def test_bad_configuration(self):
         for at, byte, rule in ((33, 0, 1), (33, 17, 1), (5, 0, 2), (9, 0, 3), (13, 17, 5), (25, 91, 8), (39, 70, 12)):

@@ -1,6 +1,5 @@
 -- What each status says of the record, and of what was written.
-use Rattle.std.specs.Prelude.{◌≡◌, ℕ, ◌<◌, ◌≤◌, ◌+◌, ◌^◌, List, [], ◌∷◌, length, take, drop, map, codes, string_bytes, Option, Some, String}
-use Rattle.std.specs.Global.{Global}
+use Rattle.std.specs.Prelude.{◌≡◌, ℕ, ◌<◌, ◌≤◌, ◌+◌, ◌^◌, List, [], length, take, drop, Option, Some}
 use Rattle.io_ports.specs.Content.{Grows, GrowsPart}
 use Rattle.io_ports.specs.declared.feed.RecordFault.{RecordFault}
 use Rattle.desk_laws.specs.declared.setup.Setup.{Setup}
@@ -85,10 +84,6 @@ record_behind setup bytes = Run setup (items_from (length setup.guests) setup.pa
 -- what a status says of the bytes behind a setup
 abbrev pub SaysBehind : Setup → List ℕ → Option (List ℕ) → Status → Option (List ℕ) → Option (List ℕ) → Type 0
 SaysBehind setup bytes left status before after = SaysBy (record_behind setup) items_len bytes left status before after
-
--- the one form of the words
-abbrev pub IsReplay : List (String Global) → Type 0
-IsReplay words = map string_bytes words ≡ codes "replay" ∷ []
 
 -- the status after an outcome of the run
 abbrev pub status_of : Outcome → Status

@@ -1,2 +1,4 @@
 pub mod Answers
+pub mod Making
 pub mod Statuses
+pub mod WordForms

@@ -29,7 +29,7 @@ kind_name kinds.Short = codes "short"
 -- the line of a status, without the newline that ends it
 abbrev pub line_of : Status → List ℕ
 line_of statuses.Done = []
-line_of statuses.Usage = codes "usage: guid replay"
+line_of statuses.Usage = codes "usage: guid replay | guid make N"
 line_of (statuses.BadConfig k) = codes "bad configuration: rule " ++ decimal k
 line_of (statuses.BadRecord f) = codes "bad record at " ++ decimal f.offset ++ codes ": " ++ kind_name f.kind
 line_of statuses.ReadFault = codes "read fault"

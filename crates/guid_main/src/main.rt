@@ -1,4 +1,4 @@
-//! The daemon's program: replays a record of a desktop.
+//! The daemon's program: replays a record of a desktop, or makes one from a number.
 #![tactic(auto)]
 
 #[cfg(test)]
@@ -10,6 +10,9 @@ mod guest_tests;
 #[cfg(test)]
 mod isolation_tests;
 #[cfg(test)]
+mod made_tests;
+mod making;
+#[cfg(test)]
 mod message_tests;
 #[cfg(test)]
 mod output_tests;
@@ -20,6 +23,7 @@ mod streams;
 mod tests;
 #[cfg(test)]
 mod user_tests;
+mod words;
 #[cfg(test)]
 mod work_tests;
 

@@ -1,12 +1,16 @@
 // The program's top call.
-ghost use Rattle.std.specs.Prelude.{◌≤◌, ◌≡◌, ◌↔◌, length, IsTrue, IfOk, IsOk, None};
+ghost use Rattle.std.specs.Prelude.{◌≤◌, ◌≡◌, ℕ, length, IfOk, IsOk, None};
 ghost use Rattle.io_ports.specs.Content.{Told};
 ghost use Rattle.io_ports.specs.Counts.{Rose};
 ghost use Rattle.desk_laws.specs.Rules.{first_broken, Fits};
 ghost use Rattle.frame_pool.specs.Ports.{AreZeros};
-ghost use Rattle.guid_main.specs.Answers.{Says, SaysBehind, IsReplay, after_config, status_of};
+ghost use Rattle.guid_main.specs.Answers.{Says, SaysBehind, after_config, status_of};
+ghost use Rattle.guid_main.specs.Making.{Makes};
+ghost use Rattle.guid_main.specs.WordForms.{IsReplay, IsMake, HasNoForm};
 
+use crate::making::make;
 use crate::status::Status;
+use crate::words::{Words, words_of};
 use desk_laws::Setup;
 use frame_pool::{FramePort, PoolPort};
 use gui_num::NoMemory;
@@ -17,13 +21,6 @@ use std::alloc::Global;
 
 // How many items a run takes at most.
 const MOST_ITEMS: u64 = 1 << 40;
-
-// Whether the words are the one form that there is.
-fn is_replay(words: &Vec<String>) -> bool
-    ensures { IsTrue result ↔ IsReplay words.now.items }
-{
-    words.len() == 1 && words[0].as_str() == "replay"
-}
 
 // The status where no setup was read.
 fn after_config(e: ConfigRead) -> Status
@@ -112,8 +109,25 @@ fn replay<S: Source, K: Sink>(alloc: Global, setup: &Setup, input: &mut S, out: 
     }
 }
 
+// Replays the record that the input is.
+fn replay_input<S: Source, K: Sink>(alloc: Global, input: &mut S, out: &mut K) -> Status
+    ensures says { Told (S.left input.old) (λ bytes. Says bytes (S.left input.new) result (K.written out.old) (K.written out.new)) }
+    ensures read_later { S.faults input.old ≤ S.faults input.new }
+    ensures read { result ≡ Status.ReadFault → Rose (S.faults input.old) (S.faults input.new) }
+    ensures write_later { K.faults out.old ≤ K.faults out.new }
+    ensures write { result ≡ Status.WriteFault → Rose (K.faults out.old) (K.faults out.new) }
+    ensures words { result ≡ Status.Usage → ⊥ }
+{
+    let setup = match read_config(alloc, input) {
+        Ok(setup) => setup,
+        Err(e) => return after_config(e),
+    };
+    replay(alloc, &setup, input, out)
+}
+
 /// Does all that the program does, for the words after its name: with the one word `replay` it reads
-/// a record from the input and writes what the desktop posts to the output.
+/// a record from the input and writes what the desktop posts to the output; with `make` and a number it
+/// writes the record of so many rounds, and leaves the input alone. Words of another form do nothing.
 ///
 /// What is written for a record is pixel by pixel the composition of its windows, and to each guest exactly
 /// what it would get alone: from its own messages, the words that are read of its frames, and the events and
@@ -121,26 +135,27 @@ fn replay<S: Source, K: Sink>(alloc: Global, setup: &Setup, input: &mut S, out: 
 ///
 /// What each status says of the record and of the output stands with `Status`; the record and output
 /// formats are this project's own, and the messages in them are those of the Qubes GUI protocol.
+#[tactic(auto, using(crate::proofs::WordLemmas::one_form, crate::proofs::WordLemmas::made_again))]
 pub fn run<S: Source, K: Sink>(
     alloc: Global,
     words: &Vec<String>,
     input: &mut S,
     out: &mut K,
 ) -> Status
-    ensures says { Told (S.left input.old) (λ bytes. Says bytes (S.left input.new) result (K.written out.old) (K.written out.new)) }
-    ensures usage { result ≡ Status.Usage → IsReplay words.now.items → ⊥ }
-    ensures words { (IsReplay words.now.items → ⊥) → result ≡ Status.Usage }
+    ensures says { IsReplay words.now.items → Told (S.left input.old) (λ bytes. Says bytes (S.left input.new) result (K.written out.old) (K.written out.new)) }
+    ensures makes { (rounds : ℕ) → IsMake words.now.items rounds → Makes rounds result (K.written out.old) (K.written out.new) }
+    ensures unread { (rounds : ℕ) → IsMake words.now.items rounds → input.new ≡ input.old }
+    ensures usage { result ≡ Status.Usage → HasNoForm words.now.items }
+    ensures words { HasNoForm words.now.items → result ≡ Status.Usage }
+    ensures nothing { HasNoForm words.now.items → (input.new ≡ input.old) × (out.new ≡ out.old) }
     ensures read_later { S.faults input.old ≤ S.faults input.new }
     ensures read { result ≡ Status.ReadFault → Rose (S.faults input.old) (S.faults input.new) }
     ensures write_later { K.faults out.old ≤ K.faults out.new }
     ensures write { result ≡ Status.WriteFault → Rose (K.faults out.old) (K.faults out.new) }
 {
-    if !is_replay(words) {
-        return Status::Usage;
+    match words_of(words) {
+        Some(Words::Replay) => replay_input(alloc, input, out),
+        Some(Words::Make { rounds }) => make(alloc, rounds, out),
+        None => Status::Usage,
     }
-    let setup = match read_config(alloc, input) {
-        Ok(setup) => setup,
-        Err(e) => return after_config(e),
-    };
-    replay(alloc, &setup, input, out)
 }

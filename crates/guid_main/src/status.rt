@@ -9,7 +9,7 @@ use std::fmt;
 /// line, without a newline; that of `Done` is empty.
 #[derive(Clone, Copy, Debug, PartialEq, Eq)]
 pub enum Status {
-    /// The input came to its End, and all that it gives was written.
+    /// The input came to its End, and all that it gives was written; or the record that was asked for was made whole.
     Done,
     /// The words after the program's name have no known form.
     Usage,
@@ -19,7 +19,7 @@ pub enum Status {
     BadRecord { fault: RecordFault },
     /// A read of the input failed; all that was read whole was done and written.
     ReadFault,
-    /// A write of the output failed; a prefix of the output was written.
+    /// A write of the output failed; a prefix of the output, or of the record that was asked for, was written.
     WriteFault,
     /// There is no memory to begin with; nothing was written.
     NoMemory,
@@ -63,7 +63,7 @@ impl fmt::Display for Status {
     fn fmt<W: fmt::Write>(&self, f: &mut fmt::Formatter<W>) -> fmt::Result {
         match self {
             Status::Done => Ok(()),
-            Status::Usage => write!(f, "usage: guid replay"),
+            Status::Usage => write!(f, "usage: guid replay | guid make N"),
             Status::BadConfig { rule } => write!(f, "bad configuration: rule {rule}"),
             Status::BadRecord { fault } => {
                 write!(

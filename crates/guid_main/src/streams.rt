@@ -6,8 +6,8 @@ ghost use Rattle.std.specs.IoError.{error_kind};
 ghost use Rattle.std.specs.Vec.Iter.{into_iter_items};
 ghost use Rattle.io_ports.specs.Counts.{Rose};
 ghost use Rattle.io_ports.specs.StdStreams.{write_faults};
-ghost use Rattle.guid_main.specs.Answers.{IsReplay};
 ghost use Rattle.guid_main.specs.Statuses.{after_args, after_flush, told_of};
+ghost use Rattle.guid_main.specs.WordForms.{HasNoForm};
 
 use crate::run::run;
 use crate::status::Status;
@@ -66,8 +66,8 @@ pub fn run_flushed<S: Source, W: Write>(
     input: &mut S,
     out: &mut StdSink<W>,
 ) -> Status
-    ensures usage { result ≡ Status.Usage → IsReplay words.now.items → ⊥ }
-    ensures words { (IsReplay words.now.items → ⊥) → (result ≡ Status.Usage) ⊎ (result ≡ Status.WriteFault) }
+    ensures usage { result ≡ Status.Usage → HasNoForm words.now.items }
+    ensures words { HasNoForm words.now.items → (result ≡ Status.Usage) ⊎ (result ≡ Status.WriteFault) }
     ensures read_later { S.faults input.old ≤ S.faults input.new }
     ensures read { result ≡ Status.ReadFault → Rose (S.faults input.old) (S.faults input.new) }
     ensures write_later { write_faults out.old ≤ write_faults out.new }
@@ -85,8 +85,8 @@ pub fn run_streams<R: Read + Drop, W: Write + Drop>(
     reader: R,
     writer: W,
 ) -> Status
-    ensures usage { result ≡ Status.Usage → IsReplay words.now.items → ⊥ }
-    ensures words { (IsReplay words.now.items → ⊥) → (result ≡ Status.Usage) ⊎ ((result ≡ Status.WriteFault) ⊎ (result ≡ Status.NoMemory)) }
+    ensures usage { result ≡ Status.Usage → HasNoForm words.now.items }
+    ensures words { HasNoForm words.now.items → (result ≡ Status.Usage) ⊎ ((result ≡ Status.WriteFault) ⊎ (result ≡ Status.NoMemory)) }
 {
     let Ok(reader) = BufReader::with_capacity(alloc, STREAM_BUFFER, reader) else {
         return Status::NoMemory;

@@ -94,7 +94,7 @@ pub(crate) fn picture_behind(
     Ok(record)
 }
 
-fn words(alloc: Global, given: &[&str]) -> Result<Vec<String>, Fail> {
+pub(crate) fn words(alloc: Global, given: &[&str]) -> Result<Vec<String>, Fail> {
     let mut words = Vec::new(alloc);
     for word in given {
         words.push(String::from_str(alloc, word)?)?;
