@@ -50,12 +50,12 @@ shown-cut k w h (word ∷ words) =
     by true = refl
     by false = refl
 
--- one more word is cut
-pub cut-step : (words : List ℕ) (i k w h v : ℕ) → i < length words → v ≡ cut_word k w h (get_or words i 0) →
-    take (suc i) (set words i v) ++ cut_words (suc k) w h (drop (suc i) (set words i v)) ≡ take i words ++ cut_words k w h (drop i words)
-cut-step [] i k w h v inside e = absurd (omega arith)
-cut-step (word ∷ words) zero k w h v inside e = ap (λ n. n ∷ cut_words (suc k) w h words) e
-cut-step (word ∷ words) (suc i) k w h v inside e = ap (λ rest. word ∷ rest) (cut-step words i k w h v (omega arith) e)
+-- what is cut of the word at a place
+pub cut-at : (words : List ℕ) (i k w h : ℕ) → i < length words → get_or (cut_words k w h words) i 0 ≡ cut_word (k + i) w h (get_or words i 0)
+cut-at [] i k w h inside = absurd (omega arith)
+cut-at (word ∷ words) zero k w h inside = ap (λ n. cut_word n w h word) (omega arith)
+cut-at (word ∷ words) (suc i) k w h inside =
+    cut-at words i (suc k) w h (omega arith) ∙ ap (λ n. cut_word n w h (get_or words i 0)) (omega arith)
 
 pub length-cut : (k w h : ℕ) (words : List ℕ) → length (cut_words k w h words) ≡ length words
 length-cut k w h [] = refl

@@ -1,5 +1,5 @@
 -- The pixels of a tile, row by row: a colour where something was read.
-use Rattle.std.specs.Prelude.{ℕ, suc, ◌/◌, ◌%◌, Bool, ◌&&◌, nat_lt, List, [], ◌∷◌, map, replicate, Option, Some, None, is_some, if◌then◌else◌, slice_set}
+use Rattle.std.specs.Prelude.{ℕ, suc, ◌/◌, ◌%◌, Bool, ◌&&◌, nat_le, nat_lt, List, [], ◌∷◌, map, replicate, Option, Some, None, is_some, if◌then◌else◌, slice_set}
 use Rattle.std.specs.List.{list_any}
 use Rattle.desk_laws.specs.declared.limits.TheConstants.{TILE_SIDE}
 use Rattle.tile_store.specs.declared.square.TheConstants.{PIXELS}
@@ -46,6 +46,10 @@ cut_word k w h word = if is_inside w h k then word else 4278190080
 abbrev pub cut_words : ℕ → ℕ → ℕ → List ℕ → List ℕ
 cut_words k w h [] = []
 cut_words k w h (word ∷ words) = cut_word k w h word ∷ cut_words (suc k) w h words
+
+-- whether a number lies from one on and below another
+abbrev pub is_from : ℕ → ℕ → ℕ → Bool
+is_from from end k = nat_le from k && nat_lt k end
 
 -- whether a word is a colour
 abbrev pub is_colour : ℕ → Bool

@@ -1,6 +1,6 @@
 // The pixels of one tile.
-ghost use Rattle.std.specs.Prelude.{◌≡◌, ℕ, ◌+◌, ◌-◌, ◌<◌, ◌≤◌, ◌^◌, length, take, drop, ◌++◌, Some, None, IfOk, slice_index, slice_index_or, slice_set, vec_len, IsSome, IsTrue};
-ghost use Rattle.tile_store.specs.Squares.{blank, has_pixel, coloured_from, cut_from, cut_words, cut_word, is_colour, shown};
+ghost use Rattle.std.specs.Prelude.{◌≡◌, ℕ, ◌+◌, ◌-◌, ◌<◌, ◌≤◌, ◌^◌, length, take, drop, ◌++◌, Some, None, IfOk, slice_index, slice_index_or, slice_set, vec_len, IsSome, IsTrue, if◌then◌else◌};
+ghost use Rattle.tile_store.specs.Squares.{blank, has_pixel, coloured_from, cut_from, cut_words, is_from, is_colour, shown};
 ghost use Rattle.tile_store.specs.Contents.{colour_or};
 ghost use Rattle.std.specs.List.{list_any};
 
@@ -117,19 +117,25 @@ fn cut_all(words: &mut [u32; PIXELS], w: u32, h: u32)
     requires { length words.old ≡ PIXELS }
     ensures { words.new ≡ cut_words 0 w h words.old }
 {
-    for k in 0..PIXELS as u32 {
-        words[k as usize] = cut_word(words[k as usize], k, w, h);
+    for row in 0..SIDE {
+        let kept = if row < h as usize {
+            SIDE.min(w as usize)
+        } else {
+            0
+        };
+        forget(words, row * SIDE + kept, (row + 1) * SIDE);
     }
 }
 
-// What the word with number k is cut to.
-fn cut_word(word: u32, k: u32, w: u32, h: u32) -> u32
-    ensures { result ≡ cut_word k w h word }
+// Forgets the words from one number on up to another.
+fn forget(words: &mut [u32; PIXELS], from: usize, end: usize)
+    requires order { from ≤ end }
+    requires inside { end ≤ length words.old }
+    ensures len { length words.new ≡ length words.old }
+    ensures words { (i : ℕ) → i < length words.old → slice_index words.new i ≡ (if is_from from end i then 4278190080 else slice_index words.old i) }
 {
-    if k % TILE_SIDE < w && k / TILE_SIDE < h {
-        word
-    } else {
-        NOTHING
+    if from < end {
+        words[from..end].fill(NOTHING);
     }
 }
 

@@ -1,18 +1,23 @@
-use Rattle.std.proofs.Common.{◌≡◌, ◌+◌, ◌<◌, suc, ◌++◌, length, take, drop, get_or, set, ap, sym, ◌∙◌, arith}
-use Rattle.std.proofs.lemmas.List.{length-set}
-use Rattle.tile_store.specs.Squares.{cut_words, cut_word}
-use Rattle.tile_store.proofs.SquareLemmas.{cut-step}
+use Rattle.std.proofs.Common.{◌*◌, ◌<◌, sym, ap, ◌∙◌, arith, slice_index, if◌then◌else◌}
+use Rattle.std.proofs.lemmas.Bool.{lt-ltb}
+use Rattle.std.proofs.lemmas.List.{same_lists, get_or_default}
+use Rattle.tile_store.specs.Squares.{cut_word, cut_words}
+use Rattle.tile_store.proofs.SquareLemmas.{cut-at, length-cut}
 use Rattle.tile_store.proofs.square.cut_all.Goals as goal
 
-pub loop-k-preserved : goal.loop-k-preserved
-loop-k-preserved c =
-    let words = c.loop-k.words in
-    let k = c.loop-k.k in
-    let v = c.cut_word.result in
-    let inside : k < length words = omega (arith, c.loop-k.invariant.1, c.loop-k-test.true) in
-    let e : v ≡ cut_word k c.args.w c.args.h (get_or words k 0) = c.cut_word.ensures in
-    let step = cut-step words k k c.args.w c.args.h v inside e in
-    let one : suc k ≡ k + 1 = omega arith in (
-      ap (λ n. take n (set words k v) ++ cut_words n c.args.w c.args.h (drop n (set words k v))) (sym one) ∙ step ∙ c.loop-k.invariant.0,
-      length-set words k v ∙ c.loop-k.invariant.1,
-    )
+pub returns : goal.returns
+returns c =
+    let old = c.args.words.now in
+    let new = c.loop-row.words in
+    let w = c.args.w in
+    let h = c.args.h in
+    let long = c.loop-row.invariant.0 in
+    same_lists new (cut_words 0 w h old) (long ∙ sym (length-cut 0 w h old ∙ c.told-words)) (λ i d below.
+    let near : i < 4096 = omega (arith, below, long) in
+    let front : i < 64 * c.loop-row.row = omega (arith, near, c.loop-row-test.false) in
+    get_or_default new i d 0 below
+    ∙ c.loop-row.invariant.1 i near
+    ∙ ap (λ b. if b then cut_word i w h (slice_index old i) else slice_index old i) (lt-ltb i (64 * c.loop-row.row) front)
+    ∙ ap (λ n. cut_word n w h (slice_index old i)) (omega arith)
+    ∙ sym (cut-at old i 0 w h (omega (arith, near, c.told-words)))
+    ∙ get_or_default (cut_words 0 w h old) i 0 d (omega (arith, near, length-cut 0 w h old, c.told-words)))
