@@ -2,6 +2,9 @@ pub mod Content
 pub mod Counts
 pub mod Feeds
 pub mod KeptPosts
+pub mod Links
 pub mod Memory
 pub mod Posts
+pub mod Starts
 pub mod StdStreams
+pub mod Wires

@@ -1,8 +1,9 @@
 -- What the forms in memory hold, as contracts see them.
-use Rattle.std.specs.Prelude.{◌≡◌, ◌⊎◌, ℕ, Bool, true, false, IsTrue, if◌then◌else◌, List, [], ◌∷◌, ◌++◌, Contains, Option, Some, None}
+use Rattle.std.specs.Prelude.{◌≡◌, ◌⊎◌, ℕ, Bool, true, false, IsTrue, if◌then◌else◌, List, [], ◌∷◌, ◌++◌, map, Contains, Option, Some, None, option_map, Vec}
 use Rattle.desk_laws.specs.declared.cause.Cause.{Cause}
 use Rattle.desk_laws.specs.Scene.{Post, Reply, Ended, Picture, Summary}
 use Rattle.io_ports.specs.Counts.{one_more, faults_after}
+use Rattle.io_ports.specs.Starts.{Starts}
 
 -- what was kept, and whether it is all that was given
 pub record Kept (X : Type 0) : Type 0 where
@@ -71,3 +72,18 @@ ended_in (Some (Ended guest cause)) = Some (guest, cause)
 ended_in (Some (Picture width height colours)) = None
 ended_in (Some (Summary counts)) = None
 ended_in None = None
+
+-- the starts with these names, of which this one was the last that succeeded, where they are all
+abbrev pub told_starts : Bool → List (Vec ℕ) → Option (Vec ℕ) → Option Starts
+told_starts is_whole names running =
+    if is_whole then Some (record { names = map (λ name. name.items) names; running = option_map (λ name. name.items) running }) else None
+
+-- a journal in memory: a sink, and the starts that it tells
+pub record FailingJournal : Type 0 where
+  pub sink : FailingSink
+  pub starts : Option Starts
+
+-- a journal in memory that never fails
+pub record SureJournalView : Type 0 where
+  pub kept : Kept ℕ
+  pub starts : Option Starts

@@ -9,7 +9,10 @@
 mod fails;
 mod feed;
 mod held;
+mod journal;
 mod kept;
+mod kept_starts;
+mod link;
 mod memory;
 mod outlet;
 mod post_list;
@@ -17,8 +20,11 @@ mod sink;
 mod source;
 mod std_streams;
 mod sure;
+mod wire;
 
 pub use feed::{Feed, FeedFault, Next, RecordFault, RecordKind};
+pub use journal::{Journal, StartFault};
+pub use link::{Link, SendFailed};
 pub use memory::{MemSink, MemSource};
 pub use outlet::Outlet;
 pub use post_list::PostList;
@@ -26,6 +32,7 @@ pub use sink::{Sink, put_all};
 pub use source::{Failed, Source, fill};
 pub use std_streams::{StdSink, StdSource};
 pub use sure::{SureSink, SureSource};
+pub use wire::Wire;
 
 #[cfg(test)]
 mod tests;
