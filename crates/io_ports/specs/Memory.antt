@@ -1,5 +1,6 @@
 -- What the forms in memory hold, as contracts see them.
 use Rattle.std.specs.Prelude.{◌≡◌, ◌⊎◌, ℕ, Bool, true, false, IsTrue, if◌then◌else◌, List, [], ◌∷◌, ◌++◌, map, Contains, Option, Some, None, option_map, Vec}
+use Rattle.std.specs.Global.{Global}
 use Rattle.desk_laws.specs.declared.cause.Cause.{Cause}
 use Rattle.desk_laws.specs.Scene.{Post, Reply, Ended, Picture, Summary}
 use Rattle.io_ports.specs.Counts.{one_more, faults_after}
@@ -74,7 +75,7 @@ ended_in (Some (Summary counts)) = None
 ended_in None = None
 
 -- the starts with these names, of which this one was the last that succeeded, where they are all
-abbrev pub told_starts : Bool → List (Vec ℕ) → Option (Vec ℕ) → Option Starts
+abbrev pub told_starts : Bool → List (Vec ℕ Global) → Option (Vec ℕ Global) → Option Starts
 told_starts is_whole names running =
     if is_whole then Some (record { names = map (λ name. name.items) names; running = option_map (λ name. name.items) running }) else None
 

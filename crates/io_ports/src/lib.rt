@@ -13,6 +13,7 @@ mod journal;
 mod kept;
 mod kept_starts;
 mod link;
+mod mem_journal;
 mod memory;
 mod outlet;
 mod post_list;
@@ -20,11 +21,13 @@ mod sink;
 mod source;
 mod std_streams;
 mod sure;
+mod sure_journal;
 mod wire;
 
 pub use feed::{Feed, FeedFault, Next, RecordFault, RecordKind};
 pub use journal::{Journal, StartFault};
 pub use link::{Link, SendFailed};
+pub use mem_journal::MemJournal;
 pub use memory::{MemSink, MemSource};
 pub use outlet::Outlet;
 pub use post_list::PostList;
@@ -32,6 +35,7 @@ pub use sink::{Sink, put_all};
 pub use source::{Failed, Source, fill};
 pub use std_streams::{StdSink, StdSource};
 pub use sure::{SureSink, SureSource};
+pub use sure_journal::SureJournal;
 pub use wire::Wire;
 
 #[cfg(test)]

@@ -1,7 +1,8 @@
 // Sources and sinks in memory, with a list of the calls that are to fail.
-ghost use Rattle.std.specs.Prelude.{◌≡◌, ℕ, ◌+◌, ◌<◌, ◌≤◌, ◌↔◌, [], length, min, take, drop, Option, Some, IfOk, OnErr, IsErr, is_err, ⊤};
+ghost use Rattle.std.specs.Prelude.{◌≡◌, ℕ, ◌+◌, ◌<◌, ◌≤◌, ◌↔◌, [], length, min, take, drop, Option, Some, IfOk, OnErr, IsErr, IsTrue, is_err, ⊤};
+ghost use Rattle.std.specs.Bool.{OnTrue};
 ghost use Rattle.io_ports.specs.Content.{Grows, Taken, Told};
-ghost use Rattle.io_ports.specs.Counts.{HasCause};
+ghost use Rattle.io_ports.specs.Counts.{HasCause, Rose};
 ghost use Rattle.io_ports.specs.Memory.{FailsNext, KeepsMore, failing_after, none_kept, to_fail, told_of};
 
 use crate::fails::Fails;
@@ -111,6 +112,17 @@ impl MemSink {
         ensures { result.now ≡ self.now.kept.items }
     {
         self.kept.bytes()
+    }
+
+    /// Counts a call, and answers whether it fails: for a journal, whose starts are counted with the puts.
+    pub(crate) fn fails_next(&mut self) -> bool
+        ensures fails { IsTrue result ↔ FailsNext self.old.failing }
+        ensures counts { self.new.failing ≡ failing_after result self.old.failing }
+        ensures later { self.old.failing.faults ≤ self.new.failing.faults }
+        ensures rose { OnTrue result (Rose self.old.failing.faults self.new.failing.faults) }
+        ensures kept { self.new.kept ≡ self.old.kept }
+    {
+        self.fails.next()
     }
 }
 
