@@ -3,6 +3,7 @@ pub mod Counts
 pub mod Feeds
 pub mod KeptPosts
 pub mod Links
+pub mod MemWires
 pub mod Memory
 pub mod Posts
 pub mod Starts

@@ -1,5 +1,5 @@
 -- What the start of a wire makes of its feed, and what leaves a wire's parts as they were.
-use Rattle.std.specs.Prelude.{◌≡◌, ◌⊎◌, ℕ, List, [], length, Option, None, Some, option_map, Result, Ok, Err}
+use Rattle.std.specs.Prelude.{◌≡◌, ℕ, [], length, Option, None, option_map, Result, Ok, Err}
 use Rattle.desk_laws.specs.declared.setup.Setup.{Setup}
 use Rattle.io_ports.specs.Feeds.{Coming}
 use Rattle.io_ports.specs.declared.journal.StartFault.{StartFault}

@@ -9,33 +9,42 @@
 mod fails;
 mod feed;
 mod held;
+mod held_items;
 mod journal;
 mod kept;
 mod kept_starts;
 mod link;
 mod mem_journal;
+mod mem_link;
+mod mem_wire;
 mod memory;
 mod outlet;
 mod post_list;
+mod send_fails;
+mod sent_bytes;
 mod sink;
 mod source;
 mod std_streams;
 mod sure;
 mod sure_journal;
+mod sure_wire;
 mod wire;
 
 pub use feed::{Feed, FeedFault, Next, RecordFault, RecordKind};
 pub use journal::{Journal, StartFault};
 pub use link::{Link, SendFailed};
 pub use mem_journal::MemJournal;
+pub use mem_wire::MemWire;
 pub use memory::{MemSink, MemSource};
 pub use outlet::Outlet;
 pub use post_list::PostList;
+pub use send_fails::SendFail;
 pub use sink::{Sink, put_all};
 pub use source::{Failed, Source, fill};
 pub use std_streams::{StdSink, StdSource};
 pub use sure::{SureSink, SureSource};
 pub use sure_journal::SureJournal;
+pub use sure_wire::SureWire;
 pub use wire::Wire;
 
 #[cfg(test)]

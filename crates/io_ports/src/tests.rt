@@ -1,11 +1,13 @@
 // Each port over a few bytes, with ample memory.
-ghost use Rattle.std.specs.Prelude.{◌≡◌, ℕ, Some, [], None, ⊤};
+ghost use Rattle.std.specs.Prelude.{◌≡◌, ℕ, Some, IfOk, [], None, ⊤};
 ghost use Rattle.io_ports.specs.Feeds.{Coming};
 ghost use Rattle.io_ports.specs.Memory.{told_of};
 
 use crate::kept::KeptBytes;
 use crate::*;
-use desk_laws::{Cause, Item, MAX_PIECE};
+use desk_laws::{Cause, GuestSetup, Guests, Item, MAX_PIECE, Name, Outputs, Pairs, Setup};
+use gui_num::{Colour, NoMemory};
+use std::alloc::Global;
 use std::io::{self, Write};
 use std::test::Fail;
 
@@ -80,6 +82,10 @@ fn next_of<F: Feed>(feed: &mut F, room: &mut [u8]) -> Option<Result<Next, FeedFa
     Some(feed.next(room))
 }
 
+fn start_of<W: Wire>(wire: &mut W, setup: &Setup) -> Result<(), StartFault> {
+    wire.start("d", setup)
+}
+
 // Reads and puts through the bounds alone.
 fn copy_once<S: Source + Drop, K: Sink + Drop>(
     mut source: S,
@@ -128,6 +134,17 @@ fn sink_fails_at_its_first_put(rt: HostRuntime) -> Result<(), Fail> {
     assert_eq!(rt; put_all(&mut sink, b"de"), Ok(()));
     assert_eq!(rt; put_all(&mut sink, b"f"), Ok(()));
     assert_eq!(rt; sink.bytes(), b"def".as_slice());
+    Ok(())
+}
+
+#[test]
+fn journal_counts_starts_with_puts(rt: HostRuntime) -> Result<(), Fail> {
+    let mut journal = MemJournal::new(rt.alloc(), &[2, 3])?;
+    assert_eq!(rt; journal.start("j"), Ok(()));
+    assert_eq!(rt; put_all(&mut journal, b"abc"), Err(Failed));
+    assert_eq!(rt; journal.start("k"), Err(StartFault::Failed));
+    assert_eq!(rt; put_all(&mut journal, b"de"), Ok(()));
+    assert_eq!(rt; journal.bytes(), b"de".as_slice());
     Ok(())
 }
 
@@ -195,5 +212,160 @@ fn ended_feed_gives_end(rt: HostRuntime) -> Result<(), Fail> {
     };
     assert_eq!(rt; next_of(&mut feed, &mut room), Some(Ok(want)));
     assert_eq!(rt; feed.given, 1);
+    Ok(())
+}
+
+const FATE: RecordFault = RecordFault {
+    offset: 9,
+    kind: RecordKind::Kind,
+};
+
+// A piece of guest 1 and a picture, for two guests of 8 pages each. The second call fails, and so do the second send to
+// guest 1 and the third one to guest 0.
+fn failing_wire(alloc: Global) -> Result<MemWire, NoMemory>
+    ensures { IfOk result (λ w. w.feed.guests ≡ 2) }
+{
+    let piece = Next {
+        item: Item::Bytes { guest: 1 },
+        len: 3,
+    };
+    let snap = Next {
+        item: Item::Snap,
+        len: 0,
+    };
+    let second = SendFail {
+        guest: 1,
+        nth: 2,
+        sent: 2,
+    };
+    let ignored = SendFail {
+        guest: 1,
+        nth: 2,
+        sent: 0,
+    };
+    let third = SendFail {
+        guest: 0,
+        nth: 3,
+        sent: 9,
+    };
+    MemWire::new(
+        alloc,
+        2,
+        8,
+        &[piece, snap],
+        b"abc",
+        Some(FATE),
+        &[2],
+        &[second, ignored, third],
+    )
+}
+
+// A piece of guest 0, for one guest of 8 pages.
+fn sure_wire(alloc: Global) -> Result<SureWire, NoMemory>
+    ensures { IfOk result (λ w. w.feed.guests ≡ 1) }
+{
+    let piece = Next {
+        item: Item::Bytes { guest: 0 },
+        len: 2,
+    };
+    SureWire::new(alloc, 1, 8, &[piece], b"hi", None)
+}
+
+fn one_guest(alloc: Global) -> Result<Guests, NoMemory> {
+    let mut guests = Guests::new(alloc);
+    guests.push(GuestSetup {
+        colour: Colour(0xff0000),
+        name: Name::new(b"red"),
+    })?;
+    Ok(guests)
+}
+
+// A desktop of one guest with 8 pages.
+fn setup_of_one(alloc: Global) -> Result<Setup, NoMemory> {
+    Ok(Setup {
+        width: 8,
+        height: 6,
+        border: 1,
+        pages: 8,
+        tiles: 16,
+        percent: 90,
+        background: Colour(0),
+        guests: one_guest(alloc)?,
+        outputs: Outputs::new(alloc),
+        clip: 1,
+        denied: Pairs::new(alloc),
+    })
+}
+
+#[test]
+fn wire_gives_its_items_and_its_fate(rt: HostRuntime) -> Result<(), Fail> {
+    let mut room = vec![in rt.alloc(); 0; MAX_PIECE as usize]?;
+    let mut wire = failing_wire(rt.alloc())?;
+    let piece = Next {
+        item: Item::Bytes { guest: 1 },
+        len: 3,
+    };
+    let snap = Next {
+        item: Item::Snap,
+        len: 0,
+    };
+    assert_eq!(rt; next_of(&mut wire, &mut room), Some(Ok(piece)));
+    assert_eq!(rt; room.get(..3), Some(b"abc".as_slice()));
+    assert_eq!(rt; next_of(&mut wire, &mut room), Some(Err(FeedFault::Failed)));
+    assert_eq!(rt; next_of(&mut wire, &mut room), Some(Ok(snap)));
+    assert_eq!(rt;
+        next_of(&mut wire, &mut room),
+        Some(Err(FeedFault::Bad(FATE)))
+    );
+    assert_eq!(rt;
+        next_of(&mut wire, &mut room),
+        Some(Err(FeedFault::Bad(FATE)))
+    );
+    Ok(())
+}
+
+#[test]
+fn wire_fails_sends_of_one_guest(rt: HostRuntime) -> Result<(), Fail> {
+    let mut wire = failing_wire(rt.alloc())?;
+    assert_eq!(rt; wire.send(0, b"x"), Ok(()));
+    assert_eq!(rt; wire.send(1, b"ab"), Ok(()));
+    assert_eq!(rt; wire.send(0, b"yz"), Ok(()));
+    assert_eq!(rt; wire.send(1, b"hello"), Err(SendFailed { sent: 2 }));
+    assert_eq!(rt; wire.send(0, b"uv"), Err(SendFailed { sent: 1 }));
+    assert_eq!(rt; wire.send(1, b"c"), Ok(()));
+    assert_eq!(rt; wire.sent(0), b"xyzu".as_slice());
+    assert_eq!(rt; wire.sent(1), b"abhec".as_slice());
+    Ok(())
+}
+
+#[test]
+fn start_for_another_number_leaves_no_item(rt: HostRuntime) -> Result<(), Fail> {
+    let mut room = vec![in rt.alloc(); 0; MAX_PIECE as usize]?;
+    let setup = setup_of_one(rt.alloc())?;
+    let mut wire = failing_wire(rt.alloc())?;
+    let end = Next {
+        item: Item::End,
+        len: 0,
+    };
+    assert_eq!(rt; wire.start("d", &setup), Ok(()));
+    assert_eq!(rt; wire.start("e", &setup), Err(StartFault::Failed));
+    assert_eq!(rt; next_of(&mut wire, &mut room), Some(Ok(end)));
+    Ok(())
+}
+
+#[test]
+fn start_for_the_same_numbers_leaves_the_items(rt: HostRuntime) -> Result<(), Fail> {
+    let mut room = vec![in rt.alloc(); 0; MAX_PIECE as usize]?;
+    let setup = setup_of_one(rt.alloc())?;
+    let mut wire = sure_wire(rt.alloc())?;
+    let piece = Next {
+        item: Item::Bytes { guest: 0 },
+        len: 2,
+    };
+    assert_eq!(rt; wire.send(0, b"ok"), Ok(()));
+    assert_eq!(rt; wire.sent(0), b"ok".as_slice());
+    assert_eq!(rt; start_of(&mut wire, &setup), Ok(()));
+    assert_eq!(rt; next_of(&mut wire, &mut room), Some(Ok(piece)));
+    assert_eq!(rt; room.get(..2), Some(b"hi".as_slice()));
     Ok(())
 }
