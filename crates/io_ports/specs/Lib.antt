@@ -1,6 +1,7 @@
 pub mod Content
 pub mod Counts
 pub mod Feeds
+pub mod FileJournals
 pub mod KeptPosts
 pub mod Links
 pub mod MemWires

@@ -8,6 +8,7 @@
 
 mod fails;
 mod feed;
+mod file_journal;
 mod held;
 mod held_items;
 mod journal;
@@ -31,6 +32,7 @@ mod sure_wire;
 mod wire;
 
 pub use feed::{Feed, FeedFault, Next, RecordFault, RecordKind};
+pub use file_journal::FileJournal;
 pub use journal::{Journal, StartFault};
 pub use link::{Link, SendFailed};
 pub use mem_journal::MemJournal;

@@ -10,6 +10,7 @@ use gui_num::{Colour, NoMemory};
 use std::alloc::Global;
 use std::io::{self, Write};
 use std::test::Fail;
+use std::{env, fs, process};
 
 // A sink that takes at most 3 bytes a put.
 #[derive(Drop)]
@@ -182,6 +183,26 @@ fn adapters_count_nothing_taken(rt: HostRuntime) -> Result<(), Fail> {
     assert_eq!(rt; sink.flush(), Err(Failed));
     let mut sink = StdSink::new(Vec::new(rt.alloc()));
     assert_eq!(rt; sink.flush(), Ok(()));
+    Ok(())
+}
+
+#[test]
+fn journal_in_a_file(rt: HostRuntime) -> Result<(), Fail> {
+    let id = process::id(rt.process());
+    let name = format!(in rt.alloc(); "io_ports-journal-{id}")?;
+    let path = env::temp_dir(&rt)?.join(rt.alloc(), name.as_str())?;
+    let mut journal = FileJournal::new(&rt, rt.alloc())?;
+    assert_eq!(rt; journal.put(b""), Ok(0));
+    assert_eq!(rt; journal.put(b"a"), Err(Failed));
+    assert_eq!(rt; journal.start(path.as_str()), Ok(()));
+    assert_eq!(rt; put_all(&mut journal, b"first"), Ok(()));
+    assert_eq!(rt; journal.start(path.as_str()), Ok(()));
+    assert_eq!(rt; put_all(&mut journal, b"ab"), Ok(()));
+    assert_eq!(rt; journal.start("no/such/folder"), Err(StartFault::Failed));
+    assert_eq!(rt; put_all(&mut journal, b"cd"), Ok(()));
+    let bytes = fs::read(&rt, path.as_path())?;
+    fs::remove_file(&rt, path.as_path())?;
+    assert_eq!(rt; bytes.as_slice(), b"abcd".as_slice());
     Ok(())
 }
 
