@@ -1,1 +1,2 @@
 pub mod FrameChanges
+pub mod UserItems

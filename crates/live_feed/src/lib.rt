@@ -5,6 +5,7 @@
 mod outbox;
 mod page;
 mod row;
+mod user_item;
 
 pub use outbox::{MAX_WAITING, Outbox};
 pub use page::{PageRead, page_of};
