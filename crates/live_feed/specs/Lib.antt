@@ -1,2 +1,3 @@
 pub mod FrameChanges
+pub mod Given
 pub mod UserItems

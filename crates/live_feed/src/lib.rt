@@ -2,9 +2,11 @@
 //! frames.
 #![tactic(auto)]
 
+mod change;
 mod outbox;
 mod page;
 mod row;
+mod socket;
 mod user_item;
 
 pub use outbox::{MAX_WAITING, Outbox};
