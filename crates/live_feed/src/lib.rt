@@ -3,10 +3,12 @@
 #![tactic(auto)]
 
 mod change;
+mod guest;
 mod outbox;
 mod page;
 mod row;
 mod socket;
+mod user;
 mod user_item;
 
 pub use outbox::{MAX_WAITING, Outbox};

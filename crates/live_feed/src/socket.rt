@@ -1,7 +1,10 @@
 // One socket, which listens until it takes its one connection.
 ghost use Rattle.std.specs.Prelude.{◌≤◌, length, IfOk};
+ghost use Rattle.desk_laws.specs.declared.limits.TheConstants.{MAX_PIECE};
 ghost use Rattle.live_feed.specs.Given.{ReadsSome};
 
+use crate::row::Row;
+use desk_laws::MAX_PIECE;
 use io_ports::{Failed, StartFault};
 use mio::net::{UnixListener, UnixStream};
 use mio::{Interest, Registry, Token};
@@ -37,6 +40,13 @@ pub(crate) enum Got {
     // The end.
     Over,
     // An error.
+    Failed,
+}
+
+// Why nothing more can be read.
+#[derive(Clone, Copy, Debug, PartialEq, Eq)]
+pub(crate) enum Ended {
+    Over,
     Failed,
 }
 
@@ -87,9 +97,11 @@ impl Socket {
         }
     }
 
-    // Reads what there is into the room, which isn't empty.
-    pub(crate) fn read(&mut self, room: &mut [u8]) -> Got
-        ensures { ReadsSome (length room.old) result }
+    // Reads what there is into the front of the room, and at most so many bytes.
+    fn read(&mut self, room: &mut [u8], most: usize) -> Got
+        requires some { 1 ≤ most }
+        requires room { most ≤ length room.old }
+        ensures { ReadsSome most result }
     {
         let Port::Open(stream) = &mut self.port else {
             return Got::Nothing;
@@ -97,7 +109,7 @@ impl Socket {
         if !self.readable {
             return Got::Nothing;
         }
-        match stream.read(room) {
+        match stream.read(&mut room[..most]) {
             Ok(0) => Got::Over,
             Ok(n) => Got::Bytes(n),
             Err(e) if e.kind() == ErrorKind::WouldBlock => {
@@ -106,6 +118,30 @@ impl Socket {
             }
             Err(e) if e.kind() == ErrorKind::Interrupted => Got::Nothing,
             Err(_) => Got::Failed,
+        }
+    }
+
+    // Reads what there is, a piece at most.
+    pub(crate) fn read_piece(&mut self, room: &mut [u8]) -> Got
+        requires room { MAX_PIECE ≤ length room.old }
+        ensures { ReadsSome MAX_PIECE result }
+    {
+        self.read(room, MAX_PIECE as usize)
+    }
+
+    // Reads what there is, a piece at most, behind the bytes that are held, through the room.
+    pub(crate) fn read_behind(&mut self, held: &mut Row, room: &mut [u8]) -> Result<(), Ended>
+        requires held { length held.old ≤ 4107 }
+        requires room { MAX_PIECE ≤ length room.old }
+    {
+        match self.read_piece(room) {
+            Got::Bytes(n) => {
+                held.append(&room[..n]);
+                Ok(())
+            }
+            Got::Nothing => Ok(()),
+            Got::Over => Err(Ended::Over),
+            Got::Failed => Err(Ended::Failed),
         }
     }
 
