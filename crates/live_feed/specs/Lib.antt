@@ -1,3 +1,4 @@
 pub mod FrameChanges
 pub mod Given
+pub mod Live
 pub mod UserItems

@@ -11,7 +11,7 @@ use crate::socket::{Got, Socket};
 use crate::{MAX_WAITING, Outbox, PageRead};
 use desk_laws::Item;
 use gui_num::NoMemory;
-use io_ports::{Failed, Next, SendFailed};
+use io_ports::{Failed, FeedFault, Next, SendFailed};
 use mio::Registry;
 use std::alloc::Global;
 
@@ -54,7 +54,7 @@ impl Guest {
         me: u32,
         registry: &Registry,
         room: &mut [u8],
-    ) -> Result<Option<Next>, Failed>
+    ) -> Result<Option<Next>, FeedFault>
         requires room { MAX_PIECE ≤ length room.old }
         ensures fits { (guests pages : ℕ) → me < guests → GivesFit guests pages result }
     {
@@ -77,7 +77,7 @@ impl Guest {
         pages: u32,
         registry: &Registry,
         room: &mut [u8],
-    ) -> Result<Option<Next>, Failed>
+    ) -> Result<Option<Next>, FeedFault>
         requires room { MAX_PIECE ≤ length room.old }
         ensures fits { (guests : ℕ) → me < guests → GivesFit guests pages result }
     {

@@ -4,15 +4,20 @@
 
 mod change;
 mod guest;
+mod live_wire;
 mod outbox;
 mod page;
 mod row;
 mod socket;
+mod sockets;
 mod user;
 mod user_item;
 
+pub use live_wire::LiveWire;
 pub use outbox::{MAX_WAITING, Outbox};
 pub use page::{PageRead, page_of};
 
 #[cfg(test)]
 mod tests;
+#[cfg(test)]
+mod wire_tests;

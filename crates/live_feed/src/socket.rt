@@ -5,7 +5,7 @@ ghost use Rattle.live_feed.specs.Given.{ReadsSome};
 
 use crate::row::Row;
 use desk_laws::MAX_PIECE;
-use io_ports::{Failed, StartFault};
+use io_ports::{Failed, FeedFault, StartFault};
 use mio::net::{UnixListener, UnixStream};
 use mio::{Interest, Registry, Token};
 use std::fs::{Files, Permissions};
@@ -76,7 +76,7 @@ impl Socket {
     }
 
     // Takes the connection, where one waits.
-    pub(crate) fn accept(&mut self, registry: &Registry) -> Result<(), Failed> {
+    pub(crate) fn accept(&mut self, registry: &Registry) -> Result<(), FeedFault> {
         let Port::Listening(listener) = &self.port else {
             return Ok(());
         };
@@ -93,7 +93,7 @@ impl Socket {
                 self.readable = false;
                 Ok(())
             }
-            Err(_) => Err(Failed),
+            Err(_) => Err(FeedFault::Failed),
         }
     }
 

@@ -75,9 +75,7 @@ impl User {
     ) -> Result<(), FeedFault>
         requires room { MAX_PIECE ≤ length room.old }
     {
-        if self.socket.accept(registry).is_err() {
-            return Err(FeedFault::Failed);
-        }
+        self.socket.accept(registry)?;
         if self.fate.is_some() {
             return Ok(());
         }
