@@ -1,9 +1,15 @@
 // Spells items: the kind byte and the fixed fields of each.
-ghost use Rattle.std.specs.Prelude.{◌≡◌, ◌≤◌, ◌++◌, length, drop};
+ghost use Rattle.std.specs.Prelude.{◌≡◌, ◌≤◌, ◌++◌, length, drop, OnOk, OnErr};
+ghost use Rattle.io_ports.specs.Content.{Grows, GrowsPart};
+ghost use Rattle.io_ports.specs.Counts.{HasCause};
 ghost use Rattle.desk_laws.specs.Items.{FitsItem};
-ghost use Rattle.record_format.specs.ItemSpellings.{flag, command, item_spelling};
+ghost use Rattle.record_format.specs.ItemSpellings.{flag, command, item_spelling, fed_spelling, HasWidths};
 
 use desk_laws::{Item, MAX_GUESTS, MAX_PAGES};
+use io_ports::{Failed, Sink, put_all};
+
+// The most bytes that an item has in front of its piece.
+const MOST_FIELDS: usize = 16;
 
 // Writes bytes to the front of `out`, and answers how many they are.
 fn put_front(bytes: &[u8], out: &mut [u8]) -> usize
@@ -85,6 +91,7 @@ pub fn spell_item(item: &Item, piece_len: usize, out: &mut [u8]) -> usize
     requires room { length (item_spelling item.now piece_len) ≤ length out.old }
     ensures out { out.new ≡ item_spelling item.now piece_len ++ drop (length (item_spelling item.now piece_len)) out.old }
     ensures len { result ≡ length (item_spelling item.now piece_len) }
+    ensures widths { HasWidths item.now }
 {
     match *item {
         Item::Bytes { guest } => put_front(&piece_bytes(guest as u8, piece_len as u32), out),
@@ -114,5 +121,25 @@ pub fn spell_item(item: &Item, piece_len: usize, out: &mut [u8]) -> usize
         Item::End => put_front(&[10], out),
         Item::Lost { guest } => put_front(&[11, guest as u8], out),
         Item::Idle => 0,
+    }
+}
+
+/// Writes an item and the piece that comes with it, as `spell_item` spells it. Failed only where the sink's count of faults
+/// rose; a prefix was then written. The item has the ranges of a record, for at most 16 guests and 16,384 pages,
+/// and isn't Idle, which no record has.
+pub fn put_item<K: Sink>(item: &Item, piece: &[u8], out: &mut K) -> Result<(), Failed>
+    requires spelled { item.now ≡ Item.Idle → ⊥ }
+    requires range { FitsItem MAX_GUESTS MAX_PAGES item.now (length piece.now) }
+    ensures ok { OnOk result (Grows (K.written out.old) (fed_spelling (record { item = item.now; piece = piece.now })) (K.written out.new)) }
+    ensures err { OnErr result (GrowsPart (K.written out.old) (fed_spelling (record { item = item.now; piece = piece.now })) (K.written out.new)) }
+    ensures widths { HasWidths item.now }
+    ensures keeps { K.keeps out.old out.new }
+    ensures cause { HasCause (K.faults out.old) (K.faults out.new) result }
+{
+    let mut fields = [0u8; MOST_FIELDS];
+    let len = spell_item(item, piece.len(), &mut fields);
+    match put_all(out, &fields[..len]) {
+        Ok(()) => put_all(out, piece),
+        Err(e) => Err(e),
     }
 }

@@ -24,7 +24,7 @@ mod version;
 pub use config::{ConfigRead, read_config};
 pub use config_out::{config_len, put_config};
 pub use item::{fixed_len, item_of, item_within};
-pub use item_out::spell_item;
+pub use item_out::{put_item, spell_item};
 pub use law::{law_of_made_records, law_of_posts, law_of_records};
 pub use made::{MadeFault, put_made};
 pub use part::{PartRead, fill_whole};

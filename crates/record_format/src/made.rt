@@ -8,8 +8,9 @@ ghost use Rattle.record_format.specs.RecordGrammar.{alone};
 ghost use Rattle.record_format.specs.MadeRecord.{made_setup, opening_item, first_rounds, made_items, made};
 
 use crate::config_out::put_config;
+use crate::item_out::put_item;
 use crate::made_pieces::opening_bytes;
-use crate::made_round::{draw_of, next_seed, put_item, put_round};
+use crate::made_round::{draw_of, next_seed, put_round};
 use crate::made_setup::made_setup;
 use desk_laws::{Item, Setup};
 use io_ports::{Failed, Sink};

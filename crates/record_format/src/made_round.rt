@@ -6,16 +6,13 @@ ghost use Rattle.desk_laws.specs.Items.{FitsItem};
 ghost use Rattle.record_format.specs.ItemSpellings.{item_spelling, fed_spelling, items_spelling};
 ghost use Rattle.record_format.specs.MadeRecord.{next_seed, draw_of, store_item, move_item, click_items, key_items, kind_items, draw_items, snap_after};
 
-use crate::item_out::spell_item;
+use crate::item_out::put_item;
 use crate::made_pieces::{place_bytes, report_bytes};
-use desk_laws::{Item, MAX_GUESTS, MAX_PAGES};
-use io_ports::{Failed, Sink, put_all};
+use desk_laws::Item;
+use io_ports::{Failed, Sink};
 
 // How many rounds come to a picture.
 const ROUNDS_TO_A_SNAP: u32 = 1000;
-
-// The most bytes that an item has in front of its piece.
-const MOST_FIELDS: usize = 16;
 
 // The seed behind another one.
 pub(crate) fn next_seed(seed: u64) -> u64
@@ -30,24 +27,6 @@ pub(crate) fn draw_of(seed: u64) -> u32
     ensures { result ≡ draw_of seed }
 {
     (seed / (1 << 33)) as u32
-}
-
-// Writes an item and the piece that comes with it.
-pub(crate) fn put_item<K: Sink>(item: &Item, piece: &[u8], out: &mut K) -> Result<(), Failed>
-    requires spelled { item.now ≡ Item.Idle → ⊥ }
-    requires range { FitsItem MAX_GUESTS MAX_PAGES item.now (length piece.now) }
-    requires room { length (item_spelling item.now (length piece.now)) ≤ 16 }
-    ensures ok { OnOk result (Grows (K.written out.old) (fed_spelling (record { item = item.now; piece = piece.now })) (K.written out.new)) }
-    ensures err { OnErr result (GrowsPart (K.written out.old) (fed_spelling (record { item = item.now; piece = piece.now })) (K.written out.new)) }
-    ensures keeps { K.keeps out.old out.new }
-    ensures cause { HasCause (K.faults out.old) (K.faults out.new) result }
-{
-    let mut fields = [0u8; MOST_FIELDS];
-    let len = spell_item(item, piece.len(), &mut fields);
-    match put_all(out, &fields[..len]) {
-        Ok(()) => put_all(out, piece),
-        Err(e) => Err(e),
-    }
 }
 
 // A change of a word of a guest's frames.

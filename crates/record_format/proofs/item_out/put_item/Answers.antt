@@ -3,7 +3,7 @@ use Rattle.std.proofs.lemmas.Result.{on_err_weaker}
 use Rattle.io_ports.proofs.GrowLemmas.{part_behind, part_front}
 use Rattle.record_format.specs.ItemSpellings.{item_spelling}
 use Rattle.record_format.proofs.MadeLemmas.{front_is}
-use Rattle.record_format.proofs.made_round.put_item.Goals as goal
+use Rattle.record_format.proofs.item_out.put_item.Goals as goal
 
 pub returns-in-Ok-clause-err : goal.returns-in-Ok-clause-err
 returns-in-Ok-clause-err g c =
