@@ -1,0 +1,11 @@
+pub mod FrameLemmas
+pub mod PathLemmas
+pub mod RowLemmas
+pub mod ListLemmas
+pub mod TreeLemmas
+pub mod DamageLemmas
+pub mod NestLemmas
+pub mod EditLemmas
+pub mod AddLemmas
+pub mod RoomLemmas
+pub mod SceneLemmas

@@ -1,0 +1,7 @@
+use Rattle.std.proofs.Common.{◌≡◌, false, take}
+use Rattle.std.specs.List.{list_any}
+use Rattle.agent_tree.specs.Scenes.{holds}
+use Rattle.agent_tree.proofs.tops.box_at.Given as goal
+
+abbrev pub invariant-loop-k : goal.invariant-loop-k
+invariant-loop-k l = list_any (holds l.id) (take l.k l.tops) ≡ false

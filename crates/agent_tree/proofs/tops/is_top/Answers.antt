@@ -1,0 +1,7 @@
+use Rattle.std.proofs.Common.{sym}
+use Rattle.agent_tree.specs.Scenes.{is_named}
+use Rattle.agent_tree.proofs.ListLemmas.{any-first}
+use Rattle.agent_tree.proofs.tops.is_top.Goals as goal
+
+pub returns-in-Some : goal.returns-in-Some
+returns-in-Some c = sym (any-first (is_named c.args.id) c.args.tops.now _ c.in-Some.ensures.found)

@@ -1,0 +1,12 @@
+pub mod Frames
+pub mod Colours
+pub mod Paths
+pub mod Rows
+pub mod Lists
+pub mod Trees
+pub mod Views
+pub mod Scenes
+pub mod Edits
+pub mod Limits
+pub mod BoxEdits
+pub mod Adds
